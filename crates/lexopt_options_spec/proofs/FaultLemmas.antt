@@ -1,5 +1,5 @@
 -- What is wrong with each of some options.
-use Rattle.std.proofs.Common.{◌≡◌, ℕ, zero, suc, ◌+◌, ◌<◌, ◌≤◌, true, ◌&&◌, List, [], ◌∷◌, ◌++◌, length, take, get_or, Option, Some, None, is_none, if◌then◌else◌, refl, sym, ap, ◌∙◌, arith, append_assoc}
+use Rattle.std.proofs.Common.{◌≡◌, ℕ, zero, suc, ◌+◌, ◌<◌, ◌≤◌, true, ◌&&◌, List, [], ◌∷◌, ◌++◌, length, take, get_or, Option, Some, None, is_none, if◌then◌else◌, refl, sym, ap, ◌∙◌, arith, append-nil, append_assoc}
 use Rattle.std.specs.List.{list_all, list_any}
 use Rattle.std.proofs.lemmas.List.Folds.{list_all_more}
 use Rattle.std.proofs.lemmas.List.{take_all}
@@ -9,13 +9,9 @@ pub faults_length : (before os : List Declared) → length (faults before os) �
 faults_length before [] = refl
 faults_length before (o ∷ os) = ap suc (faults_length (before ++ o ∷ []) os)
 
-append_nil : (l : List Declared) → l ++ [] ≡ l
-append_nil [] = refl
-append_nil (o ∷ l) = ap (λ m. o ∷ m) (append_nil l)
-
 pub fault_at : (before os : List Declared) (i : ℕ) (d : Declared) → i < length os → get_or (faults before os) i None ≡ fault (before ++ take i os) (get_or os i d)
 fault_at before [] i d within = absurd (omega arith)
-fault_at before (o ∷ os) zero d within = ap (λ l. fault l o) (sym (append_nil before))
+fault_at before (o ∷ os) zero d within = ap (λ l. fault l o) (sym (append-nil before))
 fault_at before (o ∷ os) (suc i) d within = fault_at (before ++ o ∷ []) os i d (omega arith) ∙ ap (λ l. fault l (get_or os i d)) (append_assoc before (o ∷ []) (take i os))
 
 -- one more option that can be declared

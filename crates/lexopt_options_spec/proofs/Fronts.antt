@@ -1,5 +1,5 @@
 -- What words mean, and where their reading stops.
-use Rattle.std.proofs.Common.{◌≡◌, ◌≤◌, ℕ, ◌+◌, suc, Bool, true, List, [], ◌∷◌, ◌++◌, map, Option, Some, None, is_none, refl, sym, ap, subst, ◌∙◌, arith}
+use Rattle.std.proofs.Common.{◌≡◌, ◌≤◌, ℕ, ◌+◌, suc, Bool, true, List, [], ◌∷◌, ◌++◌, map, Option, Some, None, is_none, refl, sym, ap, subst, ◌∙◌, arith, append-nil}
 use Rattle.std.specs.Option.{option_map}
 use Rattle.std.proofs.lemmas.Bool.{and_parts, false≢true}
 use Rattle.lexopt_spec.specs.UnreadLine.{IsLine, UnreadLine}
@@ -24,8 +24,18 @@ use Rattle.lexopt_options_spec.specs.Places.{AreTaken, least}
 use Rattle.lexopt_options_spec.specs.Stops.{Mistake, ReadsUpTo, Stops, not_declared, value_of_flag, no_value, not_accepted, one_too_many, too_few, not_taken, not_complete, StopsAt, invalid_argument, invalid_value, missing_argument, missing_option}
 use Rattle.lexopt_options_spec.proofs.ReadItems.{ReadsAll, all_read}
 use Rattle.lexopt_options_spec.proofs.Sound.{whole_names}
-use Rattle.lexopt_options_spec.proofs.Taken.{not_both}
+use Rattle.lexopt_options_spec.proofs.Taken.{not_both, zero_within}
 use Rattle.lexopt_options_spec.proofs.Lists.{Later, split, first_none, first_is, same_somes, count_append}
+
+-- nothing is read yet
+pub nothing_read : (d : Declaration) (u : UnreadLine) → IsLine u → ReadsUpTo d u [] u
+nothing_read d u line = record {
+  items = [];
+  read = refl;
+  line = line;
+  parsed = refl;
+  within = zero_within (most d.positionals);
+}
 
 -- ---- an option by its name
 
@@ -85,7 +95,7 @@ ends : (d : Declaration) (words : List (List ℕ)) (before : List Parsed) (mista
     → (final : Reply) (m : List Item) → IsReading (table d.options) there.there final m → (final ≡ steps.end) × Later (parsed_item d.options) m before l
 ends d words before mistake there l means = later d words before l there.read.items means.items there.there there.read.read there.read.parsed means.spelled means.parsed
 
-above : (n k : ℕ) (limit : Option ℕ) → limit ≡ Some n → IsWithin (n + suc k) limit → ⊥
+pub above : (n k : ℕ) (limit : Option ℕ) → limit ≡ Some n → IsWithin (n + suc k) limit → ⊥
 above n k None is within = let e : None ≡ Some n = is in cc
 above n k (Some m) is within = let e : m ≡ n = (let f : Some m ≡ Some n = is in cc) in omega arith
 
@@ -132,11 +142,7 @@ front_is : (d : Declaration) (words : List (List ℕ)) (before : List Parsed) (m
 front_is d words before mistake there v step l means =
     let e = ends d words before mistake there l means steps.end [] (reads_last (table d.options) there.there v steps.end tt step) in
     let rest = e.1 in
-    rest.all_are ∙ ap (λ m. before ++ m) (sym (same_somes [] rest.later rest.are)) ∙ append_nil before
-  where
-    append_nil : (l : List Parsed) → l ++ [] ≡ l
-    append_nil [] = refl
-    append_nil (s ∷ l) = ap (λ m. s ∷ m) (append_nil l)
+    rest.all_are ∙ ap (λ m. before ++ m) (sym (same_somes [] rest.later rest.are)) ∙ append-nil before
 
 -- if all values are accepted, none is refused
 pub not_refused : (options : List Declared) (before : List Parsed) (s : Parsed) (rest : List Parsed) (value : List ℕ) → are_accepted options (before ++ s ∷ rest) ≡ true → refused_value options s ≡ Some value → ⊥

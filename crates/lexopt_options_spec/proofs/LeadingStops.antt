@@ -61,7 +61,7 @@ ended_so : {d : Declaration} {words : List (List ℕ)} {items : List Item} {rest
 ended_so (at_end reading) none = refl
 ended_so (at_word word more final m read reading) none = absurd (no_cons (spec.positional word) m (sym none))
 
-no_items : (k a : List Item) → k ++ a ≡ [] → a ≡ []
+pub no_items : (k a : List Item) → k ++ a ≡ [] → a ≡ []
 no_items [] a is = is
 no_items (x ∷ k) a is = absurd (let e : x ∷ (k ++ a) ≡ [] = is in cc)
 

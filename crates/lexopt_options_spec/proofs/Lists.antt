@@ -1,9 +1,7 @@
 -- Lists of what is read.
 use Rattle.std.proofs.Common.{◌≡◌, ◌+◌, List, [], ◌∷◌, ◌++◌, map, Option, Some, None, refl, sym, ap, ◌∙◌, arith}
+use Rattle.std.proofs.lemmas.Option.{same_Some}
 use Rattle.lexopt_options_spec.specs.Legal.{Parsed, positional_count}
-
-some_same : {X : Type 0} (x y : X) → Some x ≡ Some y → x ≡ y
-some_same x y is = cc
 
 pub first_same : {X : Type 0} (x y : X) (xs ys : List X) → x ∷ xs ≡ y ∷ ys → (x ≡ y) × (xs ≡ ys)
 first_same x y xs ys is = (cc, cc)
@@ -15,7 +13,7 @@ same_somes {X} [] (y ∷ ys) is = let e : [] ≡ Some y ∷ map (λ x. Some x) y
 same_somes {X} (x ∷ xs) [] is = let e : Some x ∷ map (λ x. Some x) xs ≡ [] = is in cc
 same_somes (x ∷ xs) (y ∷ ys) is =
     let parts = first_same (Some x) (Some y) (map (λ x. Some x) xs) (map (λ x. Some x) ys) is in
-    let one = some_same x y parts.0 in
+    let one = same_Some x y parts.0 in
     ap (λ z. z ∷ xs) one ∙ ap (λ zs. y ∷ zs) (same_somes xs ys parts.1)
 
 -- a list whose first elements are known
@@ -34,7 +32,7 @@ split f (x ∷ xs) ys (b ∷ bs) (a ∷ all) is whole =
     let p = first_same (f x) (Some b) (map f xs) (map (λ y. Some y) bs) is in
     let q = first_same (f x) (Some a) (map f (xs ++ ys)) (map (λ y. Some y) all) whole in
     let rest = split f xs ys bs all p.1 q.1 in
-    let same = some_same a b (sym q.0 ∙ p.0) in
+    let same = same_Some a b (sym q.0 ∙ p.0) in
     record {
       later = rest.later;
       all_are = ap (λ z. z ∷ all) same ∙ ap (λ l. b ∷ l) rest.all_are;
@@ -64,7 +62,7 @@ pub first_is : {X Y : Type 0} (f : X → Option Y) (x : X) (y : Y) (xs : List X)
 first_is f x y xs [] some is = absurd (let e : f x ∷ map f xs ≡ [] = is in cc)
 first_is f x y xs (z ∷ l) some is =
     let p = first_same (f x) (Some z) (map f xs) (map (λ y. Some y) l) is in
-    (l, ap (λ w. w ∷ l) (some_same z y (sym p.0 ∙ some)))
+    (l, ap (λ w. w ∷ l) (same_Some z y (sym p.0 ∙ some)))
 
 pub count_append : (l m : List Parsed) → positional_count (l ++ m) ≡ positional_count l + positional_count m
 count_append [] m = omega arith

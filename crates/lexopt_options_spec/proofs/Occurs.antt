@@ -1,9 +1,9 @@
 -- Where an option can come.
-use Rattle.std.proofs.lemmas.Bool.{and_from, and_parts, eq-eqb, false≢true}
+use Rattle.std.proofs.lemmas.Bool.{and_from, and_parts, eq-eqb, false≢true, or_right}
 use Rattle.std.proofs.lemmas.List.Elements.{Contains-append_right}
-use Rattle.std.proofs.Common.{◌≡◌, ◌≢◌, ◌<◌, ◌≤◌, ◌+◌, ◌||◌, Contains, is_none, position, ℕ, zero, suc, Bool, true, false, List, [], ◌∷◌, ◌++◌, map, length, slice_get, slice_index_or, Some, None, encode_utf8, refl, sym, ap, subst, ◌∙◌, arith, inr, append_assoc, length-append}
+use Rattle.std.proofs.Common.{◌≡◌, ◌≢◌, ◌<◌, ◌≤◌, ◌+◌, ◌||◌, Contains, is_none, ℕ, zero, suc, Bool, true, false, List, [], ◌∷◌, ◌++◌, map, length, slice_get, slice_index_or, Some, None, encode_utf8, refl, sym, ap, subst, ◌∙◌, arith, inr, append_assoc, length-append}
 use Rattle.std.specs.Char.{IsScalar}
-use Rattle.std.specs.List.{list_all, list_any}
+use Rattle.std.specs.List.{list_all}
 use Rattle.std.specs.Option.{option_map}
 use Rattle.lexopt_spec.specs.UnreadLine.{dash, BeginsWith, IsPlain, IsNormalIn}
 use Rattle.lexopt_line_spec.specs.Table as spec
@@ -133,12 +133,8 @@ accepted_one options i several v is = single_accepted options i v is
 accepted_more : (options : List Declared) (i : ℕ) (k : Kind) (v : List ℕ) (l : List Parsed) → accepts_at options i v ≡ true → are_accepted options l ≡ true → are_accepted options (parsed_for i k v ∷ l) ≡ true
 accepted_more options i k v l is rest = and_from _ _ (ap is_none (accepted_one options i k v is)) rest
 
-or_right : (b : Bool) → (b || true) ≡ true
-or_right true = refl
-or_right false = refl
-
 occurs_later : (i : ℕ) (s : Parsed) (l : List Parsed) → occurs i l ≡ true → occurs i (s ∷ l) ≡ true
-occurs_later i s l is = ap (λ b. legal.is_option i s || b) is ∙ or_right (legal.is_option i s)
+occurs_later i s l is = or_right (legal.is_option i s) _ is
 
 occurs_after : (i : ℕ) (l m : List Parsed) → occurs i m ≡ true → occurs i (l ++ m) ≡ true
 occurs_after i [] m is = is
@@ -190,9 +186,6 @@ abbrev AreNamesOf : List Declared → ℕ → (os : List Declared) → AreNamed 
 AreNamesOf options i [] named = Unit {0}
 AreNamesOf options i (o ∷ os) named = IsNameOf options i o named.0.0 × AreNamesOf options (suc i) os named.1
 
-first_such : (p : Declared → Bool) (before os : List Declared) (o : Declared) → list_any p before ≡ false → p o ≡ true → position p (before ++ o ∷ os) ≡ Some (length before)
-first_such p before os o none is = position_here p before os o none is
-
 named_so : (options before os : List Declared) (named : AreNamed os) → is_sound options ≡ true → AreText options → options ≡ before ++ os → list_all is_none (faults before os) ≡ true
     → AreNamesOf options (length before) os named
 named_so options before [] named sound text are so = tt
@@ -201,7 +194,7 @@ named_so options before (o ∷ os) named sound text are so =
     let has = named.0.1 in
     let parts = and_parts (is_none (fault before o)) (list_all is_none (faults (before ++ o ∷ []) os)) so in
     let index : index_of options name ≡ Some (length before) =
-    ap (λ (l : List Declared). index_of l name) are ∙ first_such (has_name name) before os o (none_before name before o parts.0 has) has in
+    ap (λ (l : List Declared). index_of l name) are ∙ position_here (has_name name) before os o (none_before name before o parts.0 has) has in
     let rest : AreNamesOf options (length (before ++ o ∷ [])) os named.1 =
     named_so options (before ++ o ∷ []) os named.1 sound text (are ∙ sym (append_assoc before (o ∷ []) os)) parts.1 in
     let counted : length (before ++ o ∷ []) ≡ suc (length before) = (let e = length-append before (o ∷ []) in omega (arith, e)) in (

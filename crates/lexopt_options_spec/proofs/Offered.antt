@@ -5,7 +5,7 @@ use Rattle.std.specs.List.{position_or_len}
 use Rattle.std.specs.Option.{option_to_list}
 use Rattle.std.specs.Str.{IsUtf8}
 use Rattle.std.specs.Cmp.Lexicographic.{bytes_decides, same_text}
-use Rattle.std.proofs.lemmas.Bool.{false≢true, eqb-true, eq-eqb, lt-ltb}
+use Rattle.std.proofs.lemmas.Bool.{false≢true, eqb-true, eq-eqb, lt-ltb, or_right}
 use Rattle.std.proofs.lemmas.List.Elements.{Contains-append_left, Contains-append_right, Contains-append_cases}
 use Rattle.lexopt_line_spec.specs.Table.{Name, short, long}
 use Rattle.lexopt_options_spec.specs.Declaration.{Declaration, Declared, has_name, is_short, is_long, index_of, is_sound}
@@ -87,15 +87,11 @@ one_named : (o : Declared) (s : List ℕ) → Contains (map spelling (names_of o
 unfolding from_names
 one_named o s has = from_one o o.short_name o.long_name refl refl s has
 
-or_right : (b : Bool) → (b || true) ≡ true
-or_right true = refl
-or_right false = refl
-
 pub named : (os : List Declared) (s : List ℕ) → Contains (spellings os) s → IsNamed os s
 named [] s has = absurd (none s has)
 named (o ∷ os) s has = ⊎_elim
     (λ one. let n = one_named o s one in record { name = n.0; is = n.1; among = ap (λ b. b || list_any (has_name n.0) os) n.2 })
-    (λ other. let n = named os s other in record { name = n.name; is = n.is; among = ap (λ b. has_name n.name o || b) n.among ∙ or_right (has_name n.name o) })
+    (λ other. let n = named os s other in record { name = n.name; is = n.is; among = or_right (has_name n.name o) _ n.among })
     (Contains-append_cases (map spelling (names_of o)) (spellings os) s has)
 
 -- ---- spellings that begin with something
@@ -151,7 +147,7 @@ occurs_offered d words s possible =
 
 any_visible : (p : Declared → Bool) (os : List Declared) → list_any p (visible os) ≡ true → list_any p os ≡ true
 any_visible p [] is = is
-any_visible p (o ∷ os) is = go o.hidden is (λ more. ap (λ b. p o || b) (any_visible p os more) ∙ or_right (p o))
+any_visible p (o ∷ os) is = go o.hidden is (λ more. or_right (p o) _ (any_visible p os more))
   where
     go : (h : Bool) → list_any p (if not h then o ∷ visible os else visible os) ≡ true → (list_any p (visible os) ≡ true → (p o || list_any p os) ≡ true) → (p o || list_any p os) ≡ true
     go true is later = later is

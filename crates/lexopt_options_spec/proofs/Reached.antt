@@ -23,7 +23,7 @@ use Rattle.lexopt_options_spec.specs.States as states
 use Rattle.lexopt_options_spec.specs.States.{Leaves, LeadsNowhere, Says, leaves_anything, leaves_due, leaves_first, leaves_further, leaves_ended, state_at_end}
 use Rattle.lexopt_options_spec.specs.Stops.{Mistake, ReadsUpTo, Stops, missing_value, no_value, not_declared, one_too_many, unexpected_argument, unexpected_value, unknown_option, value_of_flag}
 use Rattle.lexopt_options_spec.proofs.Cuts.{enough}
-use Rattle.lexopt_options_spec.proofs.Fronts.{no_front}
+use Rattle.lexopt_options_spec.proofs.Fronts.{no_front, nothing_read}
 use Rattle.lexopt_options_spec.proofs.Growing.{longer, Calm, Grows, EndsSo, ended_before, open_there, separator_last, ends_so, adds_word, calm_before, first_taken, lack_more, no_option, not_normal_more, only_end, option_before_separator, option_more, step_more, takes_next}
 use Rattle.lexopt_options_spec.proofs.LeadingOptions.{ends_here, ends_reading, reading_spells}
 use Rattle.lexopt_options_spec.proofs.Lists.{joined}
@@ -64,15 +64,11 @@ one_more {d} {s} {u} {w} {l} {x} {own} reads next is = record {
 
 pub nothing_reached : (d : Declaration) (s : UnreadLine) → IsLine s → Reached d s [] None s
 nothing_reached d s line = record {
-  upto = record { items = []; read = refl; line = line; parsed = refl; within = zero_within (most d.positionals) };
+  upto = nothing_read d s line;
   calm = λ tail calm. record { items = []; reads = refl; parsed = refl };
   closed = λ none tail. record { items = []; reads = refl; parsed = refl };
   opened = λ i is. cc;
 }
-  where
-    zero_within : (limit : Option ℕ) → IsWithin 0 limit
-    zero_within None = tt
-    zero_within (Some n) = omega arith
 
 up_to : {d : Declaration} {s u w : UnreadLine} {l : List Parsed} {x : Item} {own : Parsed} → ReadsUpTo d s l u → ReadsFirst (table d.options) u x w → parsed_item d.options x ≡ Some own → IsLine w
     → IsWithin (positional_count (l ++ own ∷ [])) (most d.positionals) → ReadsUpTo d s (l ++ own ∷ []) w

@@ -4,6 +4,7 @@ use Rattle.std.specs.List.{starts_with}
 use Rattle.std.specs.Option.{option_map}
 use Rattle.std.proofs.lemmas.Bool.{false≢true}
 use Rattle.std.proofs.lemmas.Bool.Decides.{Decides-eqb}
+use Rattle.std.proofs.lemmas.Option.{same_Some}
 use Rattle.std.proofs.lemmas.Slice.Eq.{starts_is}
 use Rattle.lexopt_spec.specs.Pieces.{after_first_piece}
 use Rattle.lexopt_spec.specs.UnreadLine.{dash, equals, no_tail, rest_of, Tail, TailFits, UnreadLine, pending, pending_in, BeginsWith, IsPlain}
@@ -26,9 +27,6 @@ use Rattle.lexopt_options_spec.proofs.Fronts.{one_front}
 use Rattle.lexopt_options_spec.proofs.Growing.{longer}
 use Rattle.lexopt_options_spec.proofs.Lists.{first_same, same_last}
 use Rattle.lexopt_options_spec.proofs.Occurs.{longer as no_longer}
-
-some_is : {X : Type 0} (x y : X) → Some x ≡ Some y → x ≡ y
-some_is x y is = cc
 
 -- ---- a value in the word of its option is shorter than the word
 
@@ -141,7 +139,7 @@ value_low : (p : List ℕ) (v w : UnreadLine) (word : List ℕ) → Low (length 
 value_low p v w word low (pending_value value by_equals has r_is after) =
     let less = taken_low (length p) v w value by_equals low has (ap (λ (x : UnreadLine). x.words) after ∙ low.none) (ap (λ (x : UnreadLine). x.tail) after) in
     let same : value ≡ word = (let e : steps.taken word ≡ steps.taken value = r_is in cc) in
-    ((λ is. not_short p value less.0 (same ∙ some_is word p is)), less.1)
+    ((λ is. not_short p value less.0 (same ∙ same_Some word p is)), less.1)
 value_low p v w word low (takes_word x ws none some r_is after) = absurd (let e : [] ≡ x ∷ ws = sym low.none ∙ some in cc)
 value_low p v w word low (nothing_to_take none empty r_is after) = absurd (let e : steps.taken word ≡ steps.missing _ = r_is in cc)
 
@@ -149,7 +147,7 @@ optional_low : (p : List ℕ) (v w : UnreadLine) (word : Option (List ℕ)) → 
 optional_low p v w word low (optional_pending value by_equals has r_is after) =
     let less = taken_low (length p) v w value by_equals low has (ap (λ (x : UnreadLine). x.words) after ∙ low.none) (ap (λ (x : UnreadLine). x.tail) after) in
     let same : Some value ≡ word = (let e : steps.maybe word ≡ steps.maybe (Some value) = r_is in cc) in
-    ((λ is. not_short p value less.0 (some_is value p (same ∙ is))), less.1)
+    ((λ is. not_short p value less.0 (same_Some value p (same ∙ is))), less.1)
 optional_low p v w word low (optional_none none r_is after) =
     ((λ is. let e : steps.maybe (Some p) ≡ steps.maybe None = ap (λ o. steps.maybe o) (sym is) ∙ r_is in cc), subst (Low (length p)) (sym after) low)
 
@@ -179,12 +177,12 @@ first_low t p u w x lone (first_several name n words v z k step few takes) =
 
 known : {X Y : Type 0} (f : X → Y) (o : Option X) (y : Y) → option_map f o ≡ Some y → (x : X) × (f x ≡ y)
 known f None y is = absurd (let e : None ≡ Some y = is in cc)
-known f (Some x) y is = (x, some_is (f x) y is)
+known f (Some x) y is = (x, same_Some (f x) y is)
 
 is_whole : (options : List Declared) (p : List ℕ) (x : Item) (s : Parsed) → parsed_item options x ≡ Some s → EndsWith p s → Whole p x
 is_whole options p (spec.option name v) s is whole = let index = known (λ i. legal.option i v) (index_of options name) s is in subst (EndsWith p) (sym index.1) whole
 is_whole options p (spec.many name vs) s is whole = let index = known (λ i. legal.several i vs) (index_of options name) s is in subst (EndsWith p) (sym index.1) whole
-is_whole options p (spec.positional word) s is whole = subst (EndsWith p) (sym (some_is (legal.positional word) s is)) whole
+is_whole options p (spec.positional word) s is whole = subst (EndsWith p) (sym (same_Some (legal.positional word) s is)) whole
 
 -- what is read last does not end with the word
 pub not_whole : (options : List Declared) (t : Table) (p : List ℕ) (u w : UnreadLine) (items : List Item) (front : List Parsed) (s : Parsed) → Alone p u → ReadsItems t u items w
@@ -230,7 +228,7 @@ extends typed b other = record {
     plain (c ∷ typed) undashed = inr (inr undashed)
 
 ends_once : (s : Parsed) (v w : List ℕ) → EndsWith v s → EndsWith w s → v ≡ w
-ends_once (legal.option i value) v w is other = some_is v w (sym is ∙ other)
+ends_once (legal.option i value) v w is other = same_Some v w (sym is ∙ other)
 ends_once (legal.several i values) v w is other = (same_last is.0 other.0 v w (sym is.1 ∙ other.1)).1
 ends_once (legal.positional word) v w is other = sym is ∙ other
 

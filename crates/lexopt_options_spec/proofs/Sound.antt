@@ -1,8 +1,8 @@
 -- The names of options that can be declared together.
-use Rattle.std.proofs.Common.{◌≡◌, ◌≢◌, ℕ, Bool, true, false, ◌==◌, ◌||◌, ◌&&◌, List, [], ◌∷◌, ◌++◌, map, position, Option, Some, None, is_none, cond, refl, sym, subst, ◌∙◌}
+use Rattle.std.proofs.Common.{◌≡◌, ◌≢◌, ℕ, Bool, true, false, ◌==◌, ◌||◌, List, [], ◌∷◌, ◌++◌, map, position, Option, Some, None, is_none, cond, refl, sym, subst, ◌∙◌}
 use Rattle.std.specs.List.{Contains, list_any, list_all}
 use Rattle.std.specs.Cmp.Lexicographic.{same_text}
-use Rattle.std.proofs.lemmas.Bool.{false≢true, eqb-true, eq-eqb}
+use Rattle.std.proofs.lemmas.Bool.{and_parts, false≢true, eqb-true, eq-eqb}
 use Rattle.std.proofs.lemmas.List.Folds.{list_any_at}
 use Rattle.std.proofs.lemmas.List.Quantifiers.{position-Some}
 use Rattle.lexopt_spec.specs.Pieces.{replacement, lossy_characters}
@@ -13,6 +13,7 @@ use Rattle.lexopt_line_spec.specs.Spelling.{IsWholeName, HaveWholeNames}
 use Rattle.lexopt_options_spec.specs.Declaration.{Declared, Reason, has, has_name, is_empty, is_short, is_long, index_of, short_fault, long_fault, or_else, fault, faults, is_sound}
 use Rattle.std.specs.Option.{option_map}
 use Rattle.lexopt_options_spec.specs.Legal.{Parsed, option, several, parsed_item}
+use Rattle.lexopt_options_spec.proofs.Lists.{first_same}
 
 -- a name that can be declared
 abbrev pub IsGoodName : Name → Type 0
@@ -26,10 +27,6 @@ none_and false r rest is = (refl, is)
 pub neither : (a b : Option Reason) → or_else a b ≡ None → (a ≡ None) × (b ≡ None)
 neither None b is = (refl, is)
 neither (Some r) b is = absurd (let e : Some r ≡ None = is in cc)
-
-both : (a b : Bool) → (a && b) ≡ true → (a ≡ true) × (b ≡ true)
-both true b is = (refl, is)
-both false b is = absurd (false≢true is)
 
 differ : (a b : ℕ) → (a == b) ≡ false → a ≢ b
 differ a b is same = false≢true (sym is ∙ eq-eqb a b same)
@@ -74,7 +71,7 @@ either false b P is one other = other is
 good_after : (before os : List Declared) (name : Name) → list_all is_none (faults before os) ≡ true → list_any (has_name name) os ≡ true → IsGoodName name
 good_after before [] name sound is = absurd (false≢true is)
 good_after before (o ∷ os) name sound is =
-    let parts = both (is_none (fault before o)) _ sound in
+    let parts = and_parts (is_none (fault before o)) _ sound in
     either (has_name name o) (list_any (has_name name) os) (IsGoodName name) is
     (λ here. good_name before o name (no_fault (fault before o) parts.0) here)
     (λ later. good_after (before ++ o ∷ []) os name parts.1 later)
@@ -99,20 +96,17 @@ known : {X Y : Type 0} (f : X → Y) (o : Option X) (y : Y) → option_map f o �
 known f None y is = absurd (let e : None ≡ Some y = is in cc)
 known f (Some x) y is = (x, refl)
 
-head_is : {X : Type 0} (x y : X) (xs ys : List X) → x ∷ xs ≡ y ∷ ys → (x ≡ y) × (xs ≡ ys)
-head_is x y xs ys is = (cc, cc)
-
 pub whole_names : (options : List Declared) → is_sound options ≡ true → (items : List Item) (l : List Parsed) → map (parsed_item options) items ≡ map (λ s. Some s) l → HaveWholeNames items
 whole_names options sound [] l is = tt
 whole_names options sound (item ∷ items) [] is = absurd (let e : parsed_item options item ∷ map (parsed_item options) items ≡ [] = is in cc)
 whole_names options sound (spec.option name value ∷ items) (s ∷ l) is =
-    let parts = head_is _ (Some s) (map (parsed_item options) items) (map (λ s. Some s) l) is in
+    let parts = first_same _ (Some s) (map (parsed_item options) items) (map (λ s. Some s) l) is in
     let index = known (λ i. option i value) (index_of options name) s parts.0 in
     (whole name (good options name index.0 sound index.1), whole_names options sound items l parts.1)
 whole_names options sound (spec.many name values ∷ items) (s ∷ l) is =
-    let parts = head_is _ (Some s) (map (parsed_item options) items) (map (λ s. Some s) l) is in
+    let parts = first_same _ (Some s) (map (parsed_item options) items) (map (λ s. Some s) l) is in
     let index = known (λ i. several i values) (index_of options name) s parts.0 in
     (whole name (good options name index.0 sound index.1), whole_names options sound items l parts.1)
 whole_names options sound (spec.positional word ∷ items) (s ∷ l) is =
-    let parts = head_is _ (Some s) (map (parsed_item options) items) (map (λ s. Some s) l) is in
+    let parts = first_same _ (Some s) (map (parsed_item options) items) (map (λ s. Some s) l) is in
     whole_names options sound items l parts.1

@@ -1,8 +1,8 @@
 -- In the table of a sound declaration, each option has its own kind.
 use Rattle.std.specs.List.{position_or_len}
-use Rattle.std.proofs.lemmas.Bool.{lt-ltb}
+use Rattle.std.proofs.Math.Bool.{and-false, and-true, or-false}
 use Rattle.std.proofs.Common.{position, nat_lt, not, ◌+◌, length, length-append, if◌then◌else◌, ◌≡◌, ◌⊎◌, ℕ, ◌==◌, ◌||◌, ◌&&◌, suc, zero, Bool, true, false, cond, List, [], ◌∷◌, ◌++◌, Option, Some, None, refl, sym, ap, subst, ◌∙◌, arith, inl, inr, true≢false}
-use Rattle.std.proofs.lemmas.Bool.{eq-eqb, eqb-true, and_parts, or_parts}
+use Rattle.std.proofs.lemmas.Bool.{eq-eqb, eqb-true, lt-ltb, and_parts, or_parts, or_right}
 use Rattle.std.specs.Prelude.{Contains, is_none}
 use Rattle.std.specs.Option.{option_to_list}
 use Rattle.std.specs.List.{list_all, list_any}
@@ -15,22 +15,6 @@ use Rattle.lexopt_options_spec.specs.Declaration.{Declared, has_name, is_short, 
 list_any-append : {X : Type 0} (p : X → Bool) (xs ys : List X) → list_any p (xs ++ ys) ≡ (list_any p xs || list_any p ys)
 list_any-append p [] ys = refl
 list_any-append p (x ∷ xs) ys = elim (p x) as (λ v. (v || list_any p (xs ++ ys)) ≡ ((v || list_any p xs) || list_any p ys)) [ true ↦ refl | false ↦ list_any-append p xs ys ]
-
-or_right : (x : Bool) → (x || true) ≡ true
-or_right true = refl
-or_right false = refl
-
-or_false : (x : Bool) → (x || false) ≡ x
-or_false true = refl
-or_false false = refl
-
-and_true : (x : Bool) → (x && true) ≡ x
-and_true true = refl
-and_true false = refl
-
-and_false : (x : Bool) → (x && false) ≡ false
-and_false true = refl
-and_false false = refl
 
 -- ---- the lists of the table
 
@@ -50,11 +34,11 @@ holds k options name = holds_in (shorts_of k options) (longs_of k options) name
 
 any_short : (c : ℕ) (k l : Kind) (n : Option ℕ) → list_any (λ d. d == c) (if_kind k l (option_to_list n)) ≡ (is_kind k l && is_short c n)
 any_short c one one None = refl
-any_short c one one (Some d) = or_false (d == c)
+any_short c one one (Some d) = or-false (d == c)
 any_short c optional optional None = refl
-any_short c optional optional (Some d) = or_false (d == c)
+any_short c optional optional (Some d) = or-false (d == c)
 any_short c several several None = refl
-any_short c several several (Some d) = or_false (d == c)
+any_short c several several (Some d) = or-false (d == c)
 any_short c flag l n = refl
 any_short c one flag n = refl
 any_short c one optional n = refl
@@ -68,11 +52,11 @@ any_short c several optional n = refl
 
 any_long : (name : List ℕ) (k l : Kind) (n : Option (List ℕ)) → list_any (λ m. pointwise ◌==◌ m name) (if_kind k l (option_to_list n)) ≡ (is_kind k l && is_long name n)
 any_long name one one None = refl
-any_long name one one (Some m) = or_false (pointwise ◌==◌ m name)
+any_long name one one (Some m) = or-false (pointwise ◌==◌ m name)
 any_long name optional optional None = refl
-any_long name optional optional (Some m) = or_false (pointwise ◌==◌ m name)
+any_long name optional optional (Some m) = or-false (pointwise ◌==◌ m name)
 any_long name several several None = refl
-any_long name several several (Some m) = or_false (pointwise ◌==◌ m name)
+any_long name several several (Some m) = or-false (pointwise ◌==◌ m name)
 any_long name flag l n = refl
 any_long name one flag n = refl
 any_long name one optional n = refl
@@ -119,14 +103,14 @@ both_long name (Some d) (Some x) e f =
 -- two options that have the same name share it
 shared : (name : Name) (o p : Declared) → has_name name o ≡ true → has_name name p ≡ true → shares_name o p ≡ true
 shared (short c) o p e f = ap (λ b. b || shares_long p.long_name o.long_name) (both_short c o.short_name p.short_name e f)
-shared (long name) o p e f = ap (λ b. shares_short p.short_name o.short_name || b) (both_long name o.long_name p.long_name e f) ∙ or_right (shares_short p.short_name o.short_name)
+shared (long name) o p e f = or_right (shares_short p.short_name o.short_name) _ (both_long name o.long_name p.long_name e f)
 
 any_shared : (name : Name) (o : Declared) (before : List Declared) → has_name name o ≡ true → list_any (has_name name) before ≡ true → list_any (shares_name o) before ≡ true
 any_shared name o [] e f = absurd (true≢false (sym f))
 any_shared name o (p ∷ ps) e f =
     elim (has_name name p) as (λ v. has_name name p ≡ v → (v || list_any (has_name name) ps) ≡ true → (shares_name o p || list_any (shares_name o) ps) ≡ true) [
       | true ↦ λ is h. ap (λ b. b || list_any (shares_name o) ps) (shared name o p e is)
-      | false ↦ λ is h. ap (λ b. shares_name o p || b) (any_shared name o ps e h) ∙ or_right (shares_name o p)
+      | false ↦ λ is h. or_right (shares_name o p) _ (any_shared name o ps e h)
     ] refl f
 
 not_shared : (f g h i : Option Reason) (b : Bool) → is_none (or_else f (or_else g (or_else h (or_else i (cond b (Some same_name) None))))) ≡ true → b ≡ false
@@ -149,7 +133,7 @@ any_more : (p : Declared → Bool) (before : List Declared) (o : Declared) → l
 any_more p before o e = list_any-append p before (o ∷ []) ∙ ap (λ b. b || (p o || false)) e
 
 any_last : (p : Declared → Bool) (before : List Declared) (o : Declared) → p o ≡ true → list_any p (before ++ o ∷ []) ≡ true
-any_last p before o e = list_any-append p before (o ∷ []) ∙ ap (λ b. list_any p before || (b || false)) e ∙ or_right (list_any p before)
+any_last p before o e = list_any-append p before (o ∷ []) ∙ or_right (list_any p before) _ (ap (λ b. b || false) e)
 
 -- and none of an option after it
 none_after : (name : Name) (before os : List Declared) → list_all is_none (faults before os) ≡ true → list_any (has_name name) before ≡ true → list_any (has_name name) os ≡ false
@@ -175,7 +159,7 @@ IsIn o (p ∷ ps) = (p ≡ o) ⊎ IsIn o ps
 any_of : (p : Declared → Bool) (os : List Declared) (o : Declared) → IsIn o os → p o ≡ true → list_any p os ≡ true
 any_of p [] o here e = absurd here
 any_of p (q ∷ os) o (inl is) e = ap (λ (x : Declared). p x || list_any p os) is ∙ ap (λ b. b || list_any p os) e
-any_of p (q ∷ os) o (inr more) e = ap (λ b. p q || b) (any_of p os o more e) ∙ or_right (p q)
+any_of p (q ∷ os) o (inr more) e = or_right (p q) _ (any_of p os o more e)
 
 -- the only option with this name decides
 held_by : (k : Kind) (name : Name) (before os : List Declared) (o : Declared) → list_all is_none (faults before os) ≡ true → IsIn o os → has_name name o ≡ true → list_any (is_held k name) os ≡ is_kind k o.kind
@@ -184,13 +168,13 @@ held_by k name before (q ∷ os) o sound (inl is) has =
     let parts = and_parts (is_none (fault before q)) (list_all is_none (faults (before ++ q ∷ []) os)) sound in
     let named : has_name name q ≡ true = ap (has_name name) is ∙ has in
     let rest = none_held k name os (none_after name (before ++ q ∷ []) os parts.1 (any_last (has_name name) before q named)) in
-    ap (λ b. is_held k name q || b) rest ∙ or_false (is_held k name q)
-    ∙ ap (λ b. is_kind k q.kind && b) named ∙ and_true (is_kind k q.kind) ∙ ap (λ (x : Declared). is_kind k x.kind) is
+    ap (λ b. is_held k name q || b) rest ∙ or-false (is_held k name q)
+    ∙ ap (λ b. is_kind k q.kind && b) named ∙ and-true (is_kind k q.kind) ∙ ap (λ (x : Declared). is_kind k x.kind) is
 held_by k name before (q ∷ os) o sound (inr more) has =
     let parts = and_parts (is_none (fault before q)) (list_all is_none (faults (before ++ q ∷ []) os)) sound in
     elim (has_name name q) as (λ v. has_name name q ≡ v → list_any (is_held k name) (q ∷ os) ≡ is_kind k o.kind) [
       | true ↦ λ is. absurd (true≢false (sym (any_of (has_name name) os o more has) ∙ none_after name (before ++ q ∷ []) os parts.1 (any_last (has_name name) before q is)))
-      | false ↦ λ is. ap (λ b. (is_kind k q.kind && b) || list_any (is_held k name) os) is ∙ ap (λ b. b || list_any (is_held k name) os) (and_false (is_kind k q.kind)) ∙ held_by k name (before ++ q ∷ []) os o parts.1 more has
+      | false ↦ λ is. ap (λ b. (is_kind k q.kind && b) || list_any (is_held k name) os) is ∙ ap (λ b. b || list_any (is_held k name) os) (and-false (is_kind k q.kind)) ∙ held_by k name (before ++ q ∷ []) os o parts.1 more has
     ] refl
 
 pub contains_in : (os : List Declared) (o : Declared) → Contains os o → IsIn o os

@@ -34,10 +34,10 @@ words_same (w ∷ ws) = ap (λ l. w ∷ l) (words_same ws)
 
 -- ---- all words are accepted, or one is the first that is not
 
-some_pair : (p q : ℕ × List ℕ) → Some p ≡ Some q → (p.0 ≡ q.0) × (p.1 ≡ q.1)
+pub some_pair : (p q : ℕ × List ℕ) → Some p ≡ Some q → (p.0 ≡ q.0) × (p.1 ≡ q.1)
 some_pair p q same = let e : p ≡ q = ap (λ o. unwrap_or o p) same in (ap (λ (r : ℕ × List ℕ). r.0) e, ap (λ (r : ℕ × List ℕ). r.1) e)
 
-some_none : (p : ℕ × List ℕ) → Some p ≡ None → ⊥
+pub some_none : (p : ℕ × List ℕ) → Some p ≡ None → ⊥
 some_none p same = let e : Some p ≡ None = same in cc
 
 pub one_refused : (ps : List Positional) (words : List (List ℕ)) (i j : ℕ) (w v : List ℕ) → IsNotTaken ps words i w → IsNotTaken ps words j v → (i ≡ j) × (w ≡ v)
@@ -59,7 +59,7 @@ taken_or_not ps words within = let some = some_places ps (length words) within i
 
 -- ---- with more words after them
 
-none_first : (b : Bool) (o : Option (ℕ × List ℕ)) (p : ℕ × List ℕ) → cond b o (Some p) ≡ None → (b ≡ true) × (o ≡ None)
+pub none_first : (b : Bool) (o : Option (ℕ × List ℕ)) (p : ℕ × List ℕ) → cond b o (Some p) ≡ None → (b ≡ true) × (o ≡ None)
 none_first true o p is = (refl, is)
 none_first false o p is = absurd (some_none p is)
 
@@ -232,9 +232,17 @@ pub record FewerPlaces (ps : List Positional) (k : ℕ) (places : List ℕ) : Ty
   pub are_places : ArePlaces ps count others
   pub same : take k others ≡ take k places
 
-less_within : (limit : Option ℕ) (n m : ℕ) → n ≤ m → IsWithin m limit → IsWithin n limit
+pub less_within : (limit : Option ℕ) (n m : ℕ) → n ≤ m → IsWithin m limit → IsWithin n limit
 less_within None n m small within = tt
 less_within (Some limit) n m small within = omega (arith, small, within)
+
+pub zero_within : (limit : Option ℕ) → IsWithin 0 limit
+zero_within None = tt
+zero_within (Some n) = omega arith
+
+pub same_within : (n k : ℕ) (limit : Option ℕ) → k ≡ 0 → IsWithin n limit → IsWithin (n + k) limit
+same_within n k None none within = tt
+same_within n k (Some m) none within = omega arith
 
 pub fewer_places : (ps : List Positional) (k count : ℕ) (places : List ℕ) → k ≤ count → IsWithin count (most ps) → ArePlaces ps count places → FewerPlaces ps k places
 fewer_places ps k count places longer within are = ⊎_elim
