@@ -1,5 +1,5 @@
 -- What is offered after some words.
-use Rattle.std.proofs.Common.{if◌then◌else◌, zero, suc, ◌≡◌, ◌≤◌, ℕ, Bool, true, false, List, [], ◌∷◌, ◌++◌, map, filter, length, slice_get, Option, Some, None, Vec, nat_eq, option_map, refl, sym, ap, subst, ◌∙◌, inl, inr, arith}
+use Rattle.std.proofs.Common.{append-nil, if◌then◌else◌, zero, suc, ◌≡◌, ◌≤◌, ℕ, Bool, true, false, List, [], ◌∷◌, ◌++◌, map, filter, length, slice_get, Option, Some, None, Vec, nat_eq, option_map, refl, sym, ap, subst, ◌∙◌, inl, inr, arith}
 use Rattle.std.proofs.Common.{Result, Ok, Err, IfOk}
 use Rattle.std.specs.Global.{Global}
 use Rattle.std.specs.List.{Contains, flat_map, starts_with}
@@ -233,13 +233,9 @@ values_are o typed r owners i word joined is at =
     ∙ ap (λ l. filter (λ v. starts_with nat_eq v typed) (values_at (declaration_of o).options r) ++ filter (λ v. starts_with nat_eq v typed) (flat_map (words_at (declaration_of o).positionals) owners) ++ filter (λ v. starts_with nat_eq v typed) l)
     (joined_so (options_of o) i joined at)
 
-nothing_more : {X : Type 0} (l : List X) → l ++ [] ≡ l
-nothing_more [] = refl
-nothing_more (x ∷ l) = ap (λ m. x ∷ m) (nothing_more l)
-
 -- there is no positional at this index
 pub no_words_past : {P : Type 0} (ps : List (rust_positional.Positional P)) (typed : List ℕ) (i : ℕ) (l : List (List ℕ)) → length ps ≤ i → l ≡ l ++ words_so (map positional_view ps) typed i
-no_words_past ps typed i l past = sym (nothing_more l) ∙ ap (λ m. l ++ m) (sym (none ps i past))
+no_words_past ps typed i l past = sym (append-nil l) ∙ ap (λ m. l ++ m) (sym (none ps i past))
   where
     none : {P : Type 0} (ps : List (rust_positional.Positional P)) (i : ℕ) → length ps ≤ i → words_so (map positional_view ps) typed i ≡ []
     none [] i past = refl

@@ -5,6 +5,7 @@ use Rattle.std.specs.Borrow.{Bor}
 use Rattle.std.specs.Prelude.{option_and_then}
 use Rattle.std.specs.Str.{IsUtf8}
 use Rattle.std.proofs.lemmas.Bool.{false≢true}
+use Rattle.std.proofs.Math.Bool.{and-true}
 use Rattle.std.proofs.lemmas.List.Folds.{list_all-append}
 use Rattle.lexopt_spec.specs.UnreadLine.{dash, BeginsWith, IsLine, IsNormalIn, UnreadLine, pending}
 use Rattle.lexopt_spec.specs.Steps as steps
@@ -59,7 +60,7 @@ use Rattle.lexopt_options.proofs.Accepted.{first_refused, first_there, none_cond
 use Rattle.lexopt_options.proofs.Keys.{found_within}
 use Rattle.lexopt_options.proofs.NoValue.{unexpected_never}
 use Rattle.lexopt_options.proofs.ReadKeys.{option_with, seen_more, seen_same}
-use Rattle.lexopt_options.proofs.ReadNext.{kind_of_index, no_count, option_item, option_parsed}
+use Rattle.lexopt_options.proofs.ReadNext.{kind_of_index, more_within, no_count, option_item, option_parsed}
 
 -- ---- what was read last
 
@@ -100,12 +101,8 @@ has_nothing d s words seen line none none_seen = record {
   last_is = λ others last are. absurd (no_last others last are);
 }
 
-and_true : (b : Bool) → (b && true) ≡ b
-and_true true = refl
-and_true false = refl
-
 accepted_more : (options : List _) (l : List Parsed) (s : Parsed) → are_accepted options (l ++ s ∷ []) ≡ (are_accepted options l && is_none (refused_value options s))
-accepted_more options l s = list_all-append (λ x. is_none (refused_value options x)) l (s ∷ []) ∙ ap (λ b. are_accepted options l && b) (and_true (is_none (refused_value options s)))
+accepted_more options l s = list_all-append (λ x. is_none (refused_value options x)) l (s ∷ []) ∙ ap (λ b. are_accepted options l && b) (and-true (is_none (refused_value options s)))
 
 neither_asked : (a b : Option declared.Asked) → is_none (or_asked a b) ≡ (is_none a && is_none b)
 neither_asked None b = refl
@@ -116,16 +113,12 @@ both_of true b c = refl
 both_of false b c = refl
 
 unasked_more : (options : List declared.Declared) (l : List Parsed) (s : Parsed) → is_none (first_asked options (l ++ s ∷ [])) ≡ (is_none (first_asked options l) && is_none (asked_by options s))
-unasked_more options [] s = neither_asked (asked_by options s) None ∙ and_true (is_none (asked_by options s))
+unasked_more options [] s = neither_asked (asked_by options s) None ∙ and-true (is_none (asked_by options s))
 unasked_more options (x ∷ l) s =
     neither_asked (asked_by options x) (first_asked options (l ++ s ∷ []))
     ∙ ap (λ b. is_none (asked_by options x) && b) (unasked_more options l s)
     ∙ both_of (is_none (asked_by options x)) (is_none (first_asked options l)) (is_none (asked_by options s))
     ∙ ap (λ b. b && is_none (asked_by options s)) (sym (neither_asked (asked_by options x) (first_asked options l)))
-
-more_within : (n : ℕ) (limit : Option ℕ) → limit ≢ Some n → IsWithin n limit → IsWithin (n + 1) limit
-more_within n None room within = tt
-more_within n (Some m) room within = let other : m ≢ n = λ same. room (ap (λ x. Some x) same) in omega arith
 
 pub has_positional : (d : Declaration) (s u v : UnreadLine) (words more : List (List ℕ)) (word : List ℕ) (seen : List ℕ) (accepted unasked : Bool) (last : Option (ℕ × List ℕ)) (going limit : Option ℕ) → HasReached d s u words seen accepted unasked last going
     → Next u (steps.positional word) v → limit ≡ most d.positionals → limit ≢ Some (length words) → more ≡ words ++ word ∷ [] → HasReached d s v more seen accepted unasked None None
@@ -139,8 +132,8 @@ has_positional d s u v words more word seen accepted unasked last going limit ha
           (more_within (positional_count has.l) (most d.positionals) (λ full. room (limit_is ∙ full ∙ ap (λ n. Some n) (counted has))) has.at.upto.within));
       words_are = words_append has.l (own ∷ []) ∙ ap (λ ws. ws ++ word ∷ []) has.words_are ∙ sym more_is;
       are_seen = seen_same d.options has.l seen word has.are_seen;
-      accepted_is = accepted_more d.options has.l own ∙ and_true (are_accepted d.options has.l) ∙ has.accepted_is;
-      asked_is = unasked_more d.options has.l own ∙ and_true (is_none (first_asked d.options has.l)) ∙ has.asked_is;
+      accepted_is = accepted_more d.options has.l own ∙ and-true (are_accepted d.options has.l) ∙ has.accepted_is;
+      asked_is = unasked_more d.options has.l own ∙ and-true (is_none (first_asked d.options has.l)) ∙ has.asked_is;
       last_is = λ others other are. ap value_of (sym (same_last has.l others own other are).1);
     }
 

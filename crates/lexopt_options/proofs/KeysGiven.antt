@@ -1,6 +1,6 @@
 -- The keys of what was read before a mistake.
 use Rattle.std.proofs.Math.Seq.{take-nil}
-use Rattle.std.proofs.Common.{◌≤◌, ℕ, zero, suc, List, [], ◌∷◌, take, Option, Some, None, sym, subst, arith}
+use Rattle.std.proofs.Common.{◌≤◌, ℕ, zero, suc, List, [], ◌∷◌, take, sym, subst, arith}
 use Rattle.lexopt_options_spec.specs.Asking.{all_but_last, parsed_before}
 use Rattle.lexopt_options_spec.specs.Legal as legal
 use Rattle.lexopt_options_spec.specs.Legal.{IsWithin, counts, most, positional_count}
@@ -11,11 +11,8 @@ use Rattle.lexopt_options.specs.declared.parsed.Parsed.{Parsed}
 use Rattle.lexopt_options.specs.declared.parsed.Parsed.TheVariants as parsed
 use Rattle.lexopt_options.specs.Declarations.{declaration_of, options_of, positionals_of}
 use Rattle.lexopt_options.specs.Keys.{AllFirst, AreParsedAs, CanHaveKeys, positional_keys}
+use Rattle.lexopt_options_spec.proofs.Taken.{less_within}
 use Rattle.lexopt_options.proofs.ReadKeys.{keys_count}
-
-fewer : (limit : Option ℕ) (n m : ℕ) → n ≤ m → IsWithin m limit → IsWithin n limit
-fewer None n m less within = tt
-fewer (Some limit) n m less within = omega (arith, less, within)
 
 no_more : (l : List legal.Parsed) → positional_count (all_but_last l) ≤ positional_count l
 no_more [] = omega arith
@@ -36,7 +33,7 @@ pub can_have_before : {F V P M S : Type 0} (o : Options F V P M S) (l : List leg
     → AreParsedAs (options_of o) (parsed_before why l) xs → AllFirst (positionals_of o) (positional_keys xs) → CanHaveKeys (positionals_of o) xs
 can_have_before o l why xs within are first = record {
   within = subst (λ n. IsWithin n (most (declaration_of o).positionals)) (sym (keys_count (options_of o) (parsed_before why l) xs are))
-      (fewer (most (declaration_of o).positionals) (positional_count (parsed_before why l)) (positional_count l) (before_fewer why l) within);
+      (less_within (most (declaration_of o).positionals) (positional_count (parsed_before why l)) (positional_count l) (before_fewer why l) within);
   firsts = first;
 }
 

@@ -10,6 +10,7 @@ use Rattle.lexopt_base.specs.declared.parser.Found.TheVariants as found
 use Rattle.lexopt_options_spec.specs.Asking.{asked_by, first_asked}
 use Rattle.lexopt_options_spec.specs.Legal as legal
 use Rattle.lexopt_options_spec.proofs.Listed.{accepted_append}
+use Rattle.lexopt_options_spec.proofs.Fronts.{nothing_read}
 use Rattle.lexopt_options_spec.specs.Legal.{are_accepted, counts, is_required, occurs, positional_count, refused_value}
 use Rattle.lexopt_options_spec.specs.Stops.{ReadsUpTo}
 use Rattle.lexopt_declaration.specs.declared.declaration.Declared.{Declared}
@@ -34,9 +35,10 @@ use Rattle.lexopt_declaration.specs.declared.declaration.Positional.{Positional}
 use Rattle.lexopt_options_spec.specs.Completion.{IsOption}
 use Rattle.lexopt_options_spec.specs.Declaration as spec
 use Rattle.std.proofs.lemmas.Bool.{eq-eqb, eqb-true, false≢true}
+use Rattle.std.proofs.Math.Bool.{or-false}
 use Rattle.lexopt_items.specs.declared.values.Values.TheVariants.{AtMostOne, All}
 use Rattle.lexopt_options.proofs.Keys.{asked_more, parsed_length, parsed_more}
-use Rattle.lexopt_options.proofs.ReadNext.{count_more, count_small, no_count, nothing_read, one_more, option_parsed}
+use Rattle.lexopt_options.proofs.ReadNext.{count_more, count_small, no_count, one_more, option_parsed}
 
 -- the line u was read up to v, and this was read, by keys; nothing was asked for
 pub record HasRead {F V P M S : Type 0} (o : Options F V P M S) (u v : UnreadLine) (count : ℕ) (seen : List ℕ) (parsed : List (Parsed F V P M S)) : Type 0 where
@@ -68,16 +70,12 @@ is_option_so i index (legal.option j value) is = ap (λ n. n == i) is
 is_option_so i index (legal.several j values) is = ap (λ n. n == i) is
 is_option_so i index (legal.positional word) is = absurd is
 
-or_false : (b : Bool) → (b || false) ≡ b
-or_false true = refl
-or_false false = refl
-
 occurs_last : (i : ℕ) (l : List legal.Parsed) (s : legal.Parsed) → occurs i (l ++ s ∷ []) ≡ (occurs i l || legal.is_option i s)
-occurs_last i [] s = or_false (legal.is_option i s)
+occurs_last i [] s = or-false (legal.is_option i s)
 occurs_last i (x ∷ l) s = elim (legal.is_option i x) as (λ b. (b || occurs i (l ++ s ∷ [])) ≡ ((b || occurs i l) || legal.is_option i s)) [ true ↦ refl | false ↦ occurs_last i l s ]
 
 has_last : (i : ℕ) (l : List ℕ) (x : ℕ) → has i (l ++ x ∷ []) ≡ (has i l || (x == i))
-has_last i [] x = or_false (x == i)
+has_last i [] x = or-false (x == i)
 has_last i (y ∷ l) x = elim (y == i) as (λ b. (b || has i (l ++ x ∷ [])) ≡ ((b || has i l) || (x == i))) [ true ↦ refl | false ↦ has_last i l x ]
 
 pub seen_more : (options : List spec.Declared) (l : List legal.Parsed) (seen : List ℕ) (index : ℕ) (s : legal.Parsed) → IsOption index s → AreSeen options l seen
@@ -86,7 +84,7 @@ seen_more options l seen index s is are = λ i needed. at (is_required options i
   where
     at : (b : Bool) → is_required options index ≡ b → (i : ℕ) → is_required options i ≡ true → has i (noted b index seen) ≡ occurs i (l ++ s ∷ [])
     at true so i needed = has_last i seen index ∙ ap (λ b. b || (index == i)) (are i needed) ∙ sym (occurs_last i l s ∙ ap (λ b. occurs i l || b) (is_option_so i index s is))
-    at false so i needed = are i needed ∙ sym (or_false (occurs i l)) ∙ ap (λ b. occurs i l || b) (sym other) ∙ sym (occurs_last i l s ∙ ap (λ b. occurs i l || b) (is_option_so i index s is))
+    at false so i needed = are i needed ∙ sym (or-false (occurs i l)) ∙ ap (λ b. occurs i l || b) (sym other) ∙ sym (occurs_last i l s ∙ ap (λ b. occurs i l || b) (is_option_so i index s is))
       where
         differ : (b : Bool) → (index == i) ≡ b → b ≡ false
         differ true same = absurd (false≢true (sym so ∙ ap (is_required options) (eqb-true index i same) ∙ needed))
@@ -96,7 +94,7 @@ seen_more options l seen index s is are = λ i needed. at (is_required options i
         other = differ (index == i) refl
 
 pub seen_same : (options : List spec.Declared) (l : List legal.Parsed) (seen : List ℕ) (word : List ℕ) → AreSeen options l seen → AreSeen options (l ++ legal.positional word ∷ []) seen
-seen_same options l seen word are = λ i needed. are i needed ∙ sym (or_false (occurs i l)) ∙ sym (occurs_last i l (legal.positional word))
+seen_same options l seen word are = λ i needed. are i needed ∙ sym (or-false (occurs i l)) ∙ sym (occurs_last i l (legal.positional word))
 
 -- ---- the keys of positionals
 

@@ -34,6 +34,7 @@ use Rattle.lexopt_options_spec.specs.Declaration.{Declaration, Declared, Positio
 use Rattle.lexopt_options_spec.specs.Legal as legal
 use Rattle.lexopt_options_spec.specs.Legal.{IsWithin, counts, most, positional_count, parsed_item}
 use Rattle.lexopt_options_spec.proofs.Lists.{count_append, joined}
+use Rattle.lexopt_options_spec.proofs.Taken.{same_within}
 use Rattle.lexopt_options_spec.specs.Stops.{ReadsUpTo, Stops, not_declared, unknown_option}
 use Rattle.lexopt_items.specs.Items.{ReadsValues, item_with, kind_view}
 use Rattle.lexopt_items.specs.declared.kinds.Kind.{Kind}
@@ -52,10 +53,6 @@ option_item d name index (All values) found = ap (option_map (λ i. legal.severa
 pub no_count : (index : ℕ) (values : Values) → counts (parsed_with index values) ≡ 0
 no_count index (AtMostOne value) = refl
 no_count index (All values) = refl
-
-same_count : (n m : ℕ) (limit : Option ℕ) → m ≡ 0 → IsWithin n limit → IsWithin (n + m) limit
-same_count n m None none within = tt
-same_count n m (Some limit) none within = omega arith
 
 values_line : (k : Kind) (v w : UnreadLine) (values : Values) → ReadsValues k v values w → IsLine v → IsLine w
 values_line Flag v w (AtMostOne None) reads line = subst IsLine (sym reads) line
@@ -90,7 +87,7 @@ option_parsed d count u v w name k index values sound k_is step found reads = re
   shorter = (option_read (table d.options) u v w name k values (k_is ∙ kind_of_index d.options name index sound found) step reads).1;
   parsed = option_item d name index values found;
   line = λ line. values_line k v w values reads (step_line calls.next u (option_reply name) v line step);
-  within = λ within. same_count count (counts (parsed_with index values)) (most d.positionals) (no_count index values) within;
+  within = λ within. same_within count (counts (parsed_with index values)) (most d.positionals) (no_count index values) within;
 }
 
 -- what a call returned
@@ -202,9 +199,9 @@ pub never_missing : (u v : UnreadLine) (o : Option (String Global)) → Next u (
 never_missing u v o (inl step) = next_reply u v (steps.missing (option_map string_bytes o)) step
 never_missing u v o (inr none) = let e : steps.missing (option_map string_bytes o) ≡ steps.no_memory = none.reply_is in cc
 
-more : (n : ℕ) (limit : Option ℕ) → limit ≢ Some n → IsWithin n limit → IsWithin (n + 1) limit
-more n None room within = tt
-more n (Some m) room within = let other : m ≢ n = λ same. room (ap (λ x. Some x) same) in omega arith
+pub more_within : (n : ℕ) (limit : Option ℕ) → limit ≢ Some n → IsWithin n limit → IsWithin (n + 1) limit
+more_within n None room within = tt
+more_within n (Some m) room within = let other : m ≢ n = λ same. room (ap (λ x. Some x) same) in omega arith
 
 -- a positional, if one more is allowed
 pub positional_parsed : (d : Declaration) (count : ℕ) (u v : UnreadLine) (word : List ℕ) → most d.positionals ≢ Some count → Next u (steps.positional word) v
@@ -215,24 +212,10 @@ positional_parsed d count u v word room step = record {
   shorter = (positional_read (table d.options) u v word step).1;
   parsed = refl;
   line = λ line. step_line calls.next u (steps.positional word) v line step;
-  within = λ within. more count (most d.positionals) room within;
+  within = λ within. more_within count (most d.positionals) room within;
 }
 
 -- ---- what was read before
-
--- at the start
-pub nothing_read : (d : Declaration) (u : UnreadLine) → IsLine u → ReadsUpTo d u [] u
-nothing_read d u line = record {
-  items = [];
-  read = refl;
-  line = line;
-  parsed = refl;
-  within = zero_within (most d.positionals);
-}
-  where
-    zero_within : (limit : Option ℕ) → IsWithin 0 limit
-    zero_within None = tt
-    zero_within (Some n) = omega arith
 
 -- and one more thing
 pub one_more : (d : Declaration) (u v w : UnreadLine) (l : List legal.Parsed) (count : ℕ) (s : legal.Parsed) → ReadsUpTo d u l v → count ≡ positional_count l → ReadsParsed d count v s w

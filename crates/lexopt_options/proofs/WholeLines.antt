@@ -1,9 +1,8 @@
 -- What the reading of a whole line means.
-use Rattle.std.proofs.Common.{append_assoc, ◌≡◌, ◌≤◌, ◌<◌, ◌-◌, ℕ, suc, length, take, arith, true, List, [], ◌∷◌, ◌++◌, refl, sym, ap, subst, ◌∙◌}
+use Rattle.std.proofs.Common.{append-nil, append_assoc, ◌≡◌, ◌≤◌, ◌<◌, ◌-◌, ℕ, suc, length, take, arith, true, List, [], ◌∷◌, ◌++◌, refl, sym, ap, subst, ◌∙◌}
 use Rattle.lexopt_spec.specs.UnreadLine.{UnreadLine}
 use Rattle.lexopt_spec.specs.Steps as steps
 use Rattle.lexopt_spec.specs.Steps.{Next}
-use Rattle.lexopt_line_spec.specs.Table.{Item}
 use Rattle.lexopt_line_spec.specs.Readings.{IsReading, start}
 use Rattle.lexopt_line_spec.proofs.ItemsRead.{says_items}
 use Rattle.lexopt_line_spec.proofs.ReadingSteps.{reads_last}
@@ -32,16 +31,12 @@ use Rattle.lexopt_options.specs.Lines.{IsLineOf, IsLineRead, before_mistake}
 use Rattle.lexopt_options.specs.Mistakes.{AreNames, IsMistake}
 use Rattle.lexopt_options.specs.Reading.{AllSeen, AreSeen, IsFirstUnseen}
 
-append_nil : (l : List Item) → l ++ [] ≡ l
-append_nil [] = refl
-append_nil (x ∷ l) = ap (λ m. x ∷ m) (append_nil l)
-
 -- words that are read to the end of the line mean what was read
 front : (d : Declaration) (words : List (List ℕ)) (l : List legal.Parsed) (v w : UnreadLine) → is_sound d.options ≡ true → ReadsUpTo d (start d.short_equals words) l v → Next v steps.end w
     → MeansFront d words l
 front d words l v w sound read ends =
     front_parsed d sound words read.items l
-    (subst (IsReading (table d.options) (start d.short_equals words) steps.end) (append_nil read.items)
+    (subst (IsReading (table d.options) (start d.short_equals words) steps.end) (append-nil read.items)
     (says_items (table d.options) (start d.short_equals words) v read.items read.read steps.end [] (reads_last (table d.options) v w steps.end tt ends)))
     read.parsed read.within
 
