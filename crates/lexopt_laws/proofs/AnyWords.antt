@@ -1,12 +1,12 @@
 -- Positionals without a list accept any word.
-use Rattle.std.proofs.Common.{◌≡◌, ℕ, zero, suc, Bool, true, false, not, cond, List, [], ◌∷◌, length, Option, Some, None, refl, ap, ◌∙◌, arith}
+use Rattle.std.proofs.Common.{◌≡◌, ℕ, zero, suc, Bool, true, false, not, cond, List, [], ◌∷◌, length, Some, None, refl, ap, ◌∙◌, arith}
 use Rattle.std.proofs.lemmas.Bool.{and_parts, false≢true}
 use Rattle.std.specs.List.{list_all}
 use Rattle.lexopt_options_spec.specs.Declaration.{Positional, Words, accepts, are_listable, files, directories, text, listed}
 use Rattle.lexopt_options_spec.specs.Legal.{IsWithin, most}
 use Rattle.lexopt_options_spec.specs.Places.{AreTaken, refused_word, takes_at}
 use Rattle.lexopt_options_spec.proofs.Shares.{some_places}
-use Rattle.lexopt_options_spec.proofs.Taken.{AreFilled, filled}
+use Rattle.lexopt_options_spec.proofs.Taken.{AreFilled, filled, zero_within}
 
 -- this is a list
 abbrev pub is_listed : Words → Bool
@@ -51,10 +51,6 @@ any_filled {ps = ps} {words = words} any good within =
 none_at_all : (ps : List Positional) (places : List ℕ) → refused_word ps places [] ≡ None
 none_at_all ps [] = refl
 none_at_all ps (i ∷ places) = refl
-
-zero_within : (limit : Option ℕ) → IsWithin 0 limit
-zero_within None = tt
-zero_within (Some n) = omega arith
 
 pub none_filled : (ps : List Positional) → are_listable ps ≡ true → AreFilled ps []
 none_filled ps good =

@@ -1,5 +1,5 @@
 -- A line asks for at most one thing, whatever else is found of it.
-use Rattle.std.proofs.Common.{◌≡◌, ℕ, true, List, [], ◌∷◌, ◌++◌, map, Option, Some, None, refl, sym, ap, subst, ◌∙◌, inl, inr, arith}
+use Rattle.std.proofs.Common.{append-nil, ◌≡◌, ℕ, true, List, [], ◌∷◌, ◌++◌, map, Option, Some, None, refl, sym, ap, subst, ◌∙◌, inl, inr, arith}
 use Rattle.lexopt_spec.specs.UnreadLine.{UnreadLine}
 use Rattle.lexopt_spec.specs.Steps as steps
 use Rattle.lexopt_spec.specs.Steps.{Reply, Next}
@@ -35,10 +35,6 @@ asks_first options (b ∷ before) s later a none is =
     let parts = parts_none (asked_by options b) (first_asked options before) none in
     ap (λ o. or_asked o (first_asked options ((before ++ s ∷ []) ++ later))) parts.0 ∙ asks_first options before s later a parts.1 is
 
-append_nil : {X : Type 0} (l : List X) → l ++ [] ≡ l
-append_nil [] = refl
-append_nil (x ∷ l) = ap (λ m. x ∷ m) (append_nil l)
-
 some_same : (a b : Asked) → Some a ≡ Some b → a ≡ b
 some_same a b is = cc
 
@@ -50,7 +46,7 @@ asked_with : (d : Declaration) (words : List (List ℕ)) (a : Asked) (ask : AskF
 asked_with d words a ask later = asks_first d.options ask.before ask.parsed later a ask.none_before ask.asks
 
 asked_alone : (d : Declaration) (words : List (List ℕ)) (a : Asked) (ask : AskFor d words a) → first_asked d.options (asking ask) ≡ Some a
-asked_alone d words a ask = ap (first_asked d.options) (sym (append_nil (asking ask))) ∙ asked_with d words a ask []
+asked_alone d words a ask = ap (first_asked d.options) (sym (append-nil (asking ask))) ∙ asked_with d words a ask []
 
 -- ---- a line that is read to its end
 

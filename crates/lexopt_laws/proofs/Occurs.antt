@@ -2,6 +2,7 @@
 use Rattle.std.proofs.Common.{◌≡◌, ◌≢◌, encode_utf8, ℕ, zero, suc, true, List, [], ◌∷◌, ◌++◌, slice_get, Some, refl, sym, ap, subst, ◌∙◌, arith}
 use Rattle.std.specs.List.{Contains}
 use Rattle.std.proofs.lemmas.Bool.{and_from, eq-eqb, or_left, or_right}
+use Rattle.std.proofs.lemmas.Option.{same_Some}
 use Rattle.std.specs.Char.{IsScalar}
 use Rattle.lexopt_spec.specs.Pieces.{lossy_characters}
 use Rattle.lexopt_spec.specs.UnreadLine.{dash, BeginsWith}
@@ -16,7 +17,7 @@ use Rattle.lexopt_options_spec.proofs.Listed.{list_good, value_fits, value_for}
 use Rattle.lexopt_options_spec.proofs.Sound.{IsGoodName, found, good}
 use Rattle.lexopt_options_spec.proofs.Occurs.{AreNamed, can_occur}
 use Rattle.lexopt_laws.proofs.AnyWords.{none_filled}
-use Rattle.lexopt_laws.proofs.SomeAnswer.{zero_within}
+use Rattle.lexopt_options_spec.proofs.Taken.{zero_within}
 use Rattle.lexopt_laws.proofs.WorkedOpen.{open_of}
 
 at_index : (options : List Declared) (o : Declared) → Contains options o → (i : ℕ) × (slice_get options i ≡ Some o)
@@ -51,9 +52,6 @@ open_first d = open_of [] no_words (separator []) refl (zero_within (most d.posi
 
 -- ---- an option has one spelling
 
-some_same : {X : Type 0} (x y : X) → Some x ≡ Some y → x ≡ y
-some_same x y is = cc
-
 tail_same : (b : ℕ) (xs ys : List ℕ) → b ∷ xs ≡ b ∷ ys → xs ≡ ys
 tail_same b xs ys is = cc
 
@@ -85,5 +83,5 @@ in_a_line d name i sound good_lists text names declared =
     let other = text possible.name (found (has_name possible.name) d.options possible.index possible.declared) in
     let same = one_spelling name possible.name (text name (found (has_name name) d.options i declared)) other (good d.options name i sound declared)
     (good d.options possible.name possible.index sound possible.declared) possible.spelled in
-    let index = some_same possible.index i (sym possible.declared ∙ ap (index_of d.options) (sym same) ∙ declared) in
+    let index = same_Some possible.index i (sym possible.declared ∙ ap (index_of d.options) (sym same) ∙ declared) in
     (spelling name ∷ possible.rest, possible.before ++ possible.parsed ∷ possible.later, possible.line_means, among i possible.before possible.parsed possible.later (is_one i possible.parsed (subst (λ j. IsOption j possible.parsed) index possible.is)))

@@ -3,6 +3,7 @@ use Rattle.std.proofs.Common.{◌≡◌, ℕ, Bool, true, false, List, [], ◌�
 use Rattle.lexopt_spec.specs.UnreadLine.{no_tail, UnreadLine, pending, IsPlain, is_plain, IsNormalIn}
 use Rattle.lexopt_spec.specs.Views.{Stage, going_on, at_end, after_pending, ValueItem, gives_pending, gives_word, stops, stopped, WordItem}
 use Rattle.lexopt_spec.proofs.PlainFronts.{plain_holds, plain_passes}
+use Rattle.lexopt_line_spec.proofs.Exact.{value_bytes}
 
 abbrev SomeValue : Stage → UnreadLine → Type 0
 SomeValue stage u = (item : Option (List ℕ)) × (v : UnreadLine) × (now : Stage) × ValueItem stage u item v now
@@ -47,10 +48,6 @@ found_and_not u x a b = absurd (let e : Some x ≡ None = sym a ∙ b in cc)
 normal_and_not : {A : Type 0} (u : UnreadLine) (w : List ℕ) (ws : List (List ℕ)) → u.words ≡ w ∷ ws → IsPlain u.ended w → ¬ IsNormalIn u.ended u.words → A
 normal_and_not u w ws is plain none = absurd (none (subst (IsNormalIn u.ended) (sym is) plain))
 
-value_in : (found : Option (List ℕ × Bool)) → List ℕ
-value_in None = []
-value_in (Some x) = x.0
-
 mark_in : (found : Option (List ℕ × Bool)) → Bool
 mark_in None = false
 mark_in (Some x) = x.1
@@ -65,10 +62,10 @@ others_in (w ∷ ws) = ws
 
 pub no_other_value : (stage now then : Stage) (u v w : UnreadLine) (item other : Option (List ℕ)) → ValueItem stage u item v now → ValueItem stage u other w then
     → (item ≡ other) × (v ≡ w) × (now ≡ then)
-unfolding value_in mark_in first_in others_in
+unfolding mark_in first_in others_in
 no_other_value stage now then u v w item other (gives_pending x e s p a b c) (gives_pending y f t q d g h) =
     let same : Some (x, e) ≡ Some (y, f) = sym p ∙ q in
-    (a ∙ ap (λ k. Some (value_in k)) same ∙ sym d, b ∙ sym g, c ∙ ap (λ k. after_pending (mark_in k)) same ∙ sym h)
+    (a ∙ ap (λ k. Some (value_bytes k)) same ∙ sym d, b ∙ sym g, c ∙ ap (λ k. after_pending (mark_in k)) same ∙ sym h)
 no_other_value stage now then u v w item other (gives_pending x e s p a b c) (gives_word y ys t q is plain d g h) = found_and_not u (x, e) p q
 no_other_value stage now then u v w item other (gives_pending x e s p a b c) (stops t q none d g h) = found_and_not u (x, e) p q
 no_other_value stage now then u v w item other (gives_pending x e s p a b c) (stopped t d g h) = ended_and_not stage s t

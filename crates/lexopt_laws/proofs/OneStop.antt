@@ -1,6 +1,7 @@
 -- The reading of a line under a declaration stops at one mistake.
 use Rattle.std.proofs.Common.{◌≡◌, ◌<◌, ◌≤◌, ℕ, ◌+◌, suc, true, List, [], ◌∷◌, ◌++◌, map, Option, Some, None, refl, sym, ap, subst, ◌∙◌, arith}
 use Rattle.std.proofs.lemmas.Bool.{eqb-true, false≢true}
+use Rattle.std.proofs.lemmas.Option.{same_Some}
 use Rattle.std.specs.Option.{option_map}
 use Rattle.lexopt_spec.specs.UnreadLine.{Tail, UnreadLine, IsLine}
 use Rattle.lexopt_spec.specs.Steps as steps
@@ -22,7 +23,8 @@ use Rattle.lexopt_options_spec.specs.Places.{AreTaken, IsNotTaken, least}
 use Rattle.lexopt_options_spec.specs.Stops.{Mistake, unknown_option, unexpected_value, missing_value, invalid_value, unexpected_argument, invalid_argument, missing_argument, missing_option, IsFirstMissing, Stops, not_declared, value_of_flag, no_value, not_accepted, one_too_many, too_few, not_taken, not_complete, StopsAt}
 use Rattle.lexopt_options_spec.proofs.Lists.{first_same, split, first_none, first_is, same_somes, count_append}
 use Rattle.lexopt_options_spec.proofs.Taken.{not_both, one_refused}
-use Rattle.lexopt_options_spec.proofs.Fronts.{item_of, not_refused, undeclared}
+use Rattle.lexopt_options_spec.proofs.Fronts.{above, item_of, not_refused, undeclared}
+use Rattle.lexopt_options_spec.proofs.LeadingStops.{no_items}
 use Rattle.lexopt_laws.proofs.Missing.{one_first_missing}
 
 -- ---- the unread line where a reading stops
@@ -143,10 +145,6 @@ compared (x ∷ xs) (y ∷ ys) ms ns is =
 
 -- ---- two stops
 
-nothing_more : (xs ys : List Item) → xs ++ ys ≡ [] → ys ≡ []
-nothing_more [] ys is = is
-nothing_more (x ∷ xs) ys is = absurd (let e : x ∷ (xs ++ ys) ≡ [] = is in cc)
-
 -- a missing value does not stop a reading that gives nothing
 no_missing : (d : Declaration) (l : List Parsed) (m : Mistake) (final : Reply) (items : List Item) (option : List ℕ) → final ≡ steps.missing (Some option) → items ≡ [] → Left d l m final items → ⊥
 no_missing d l m final items option is none (undeclared_first name tail item rest m_is are of undeclared) = let e : [] ≡ item ∷ rest = sym none ∙ are in cc
@@ -155,10 +153,6 @@ no_missing d l m final items option is none (valueless name index o m_is final_i
 no_missing d l m final items option is none (refused_first item s index value rest m_is are parsed of refused) = let e : [] ≡ item ∷ rest = sym none ∙ are in cc
 no_missing d l m final items option is none (no_room word rest m_is are limit) = let e : [] ≡ spec.positional word ∷ rest = sym none ∙ are in cc
 no_missing d l m final items option is none (at_end lacks final_is are) = let e : steps.missing (Some option) ≡ steps.end = sym is ∙ final_is in cc
-
-above : (n k : ℕ) (limit : Option ℕ) → limit ≡ Some n → IsWithin (n + suc k) limit → ⊥
-above n k None is within = let e : None ≡ Some n = is in cc
-above n k (Some m) is within = let e : m ≡ n = (let f : Some m ≡ Some n = is in cc) in omega arith
 
 -- nothing is read after a mistake
 pub not_shorter : (d : Declaration) (l k : List Parsed) (m : Mistake) (final : Reply) (xs ms ns : List Item) (x : Item) (rest : List Item)
@@ -171,7 +165,7 @@ not_shorter d l k m final xs ms ns x rest parsed more within accepted is (undecl
 not_shorter d l k m final xs ms ns x rest parsed more within accepted is (flag_value option value m_is final_is are) other = let e : x ∷ (rest ++ ns) ≡ [] = sym is ∙ are in cc
 not_shorter d l k m final xs ms ns x rest parsed more within accepted is (valueless name index option m_is final_is are found) other =
     let first = head_same x (spec.option name None) (rest ++ ns) [] (sym is ∙ are) in
-    other option final_is (nothing_more rest ns first.1)
+    other option final_is (no_items rest ns first.1)
 not_shorter d l k m final xs ms ns x rest parsed more within accepted is (refused_first item s index value others m_is are means of refused) other =
     let later = split (parsed_item d.options) xs (x ∷ rest) l k parsed more in
     let first = head_same x item (rest ++ ns) others (sym is ∙ are) in
@@ -194,12 +188,9 @@ one_name name other (spec.positional word) is too = absurd is
 no_name : (name : Name) (word : List ℕ) (item : Item) → item ≡ spec.positional word → IsOf name item → ⊥
 no_name name word item is of = subst (IsOf name) is of
 
-some_same : {X : Type 0} (x y : X) → Some x ≡ Some y → x ≡ y
-some_same x y is = cc
-
 -- a positional is not an option
 no_option : (word : List ℕ) (index : ℕ) (s : Parsed) → Some (positional word) ≡ Some s → is_option index s ≡ true → ⊥
-no_option word index s is of = false≢true (ap (is_option index) (some_same (positional word) s is) ∙ of)
+no_option word index s is of = false≢true (ap (is_option index) (same_Some (positional word) s is) ∙ of)
 
 -- an option without a value has no refused value
 none_refused : (options : List Declared) (name : Name) (s : Parsed) (value : List ℕ) → parsed_item options (spec.option name None) ≡ Some s → refused_value options s ≡ Some value → ⊥
@@ -207,7 +198,7 @@ none_refused options name s value parsed refused = go (index_of options name) pa
   where
     go : (index : Option ℕ) → option_map (λ i. legal.option i None) index ≡ Some s → ⊥
     go None is = let e : None ≡ Some s = is in cc
-    go (Some i) is = let e : None ≡ Some value = ap (refused_value options) (some_same (legal.option i None) s is) ∙ refused in cc
+    go (Some i) is = let e : None ≡ Some value = ap (refused_value options) (same_Some (legal.option i None) s is) ∙ refused in cc
 
 -- an option has one index
 one_option : (i j : ℕ) (s : Parsed) → is_option i s ≡ true → is_option j s ≡ true → i ≡ j
@@ -309,9 +300,9 @@ same_left d l m n final ms ns tails is (refused_first item s index value rest m_
     absurd (none_refused d.options name2 s value (ap (parsed_item d.options) (sym first.0) ∙ parsed) refused)
 same_left d l m n final ms ns tails is (refused_first item s index value rest m_is are parsed of refused) (refused_first item2 s2 index2 value2 rest2 n_is are2 said2 of2 refused2) =
     let first = head_same item item2 rest rest2 (sym are ∙ is ∙ are2) in
-    let same_parsed = some_same s s2 (sym parsed ∙ ap (parsed_item d.options) first.0 ∙ said2) in
+    let same_parsed = same_Some s s2 (sym parsed ∙ ap (parsed_item d.options) first.0 ∙ said2) in
     let same_index = one_option index index2 s2 (subst (λ z. is_option index z ≡ true) same_parsed of) of2 in
-    let same_value = some_same value value2 (sym refused ∙ ap (refused_value d.options) same_parsed ∙ refused2) in
+    let same_value = same_Some value value2 (sym refused ∙ ap (refused_value d.options) same_parsed ∙ refused2) in
     m_is ∙ ap (λ i. invalid_value i value) same_index ∙ ap (invalid_value index2) same_value ∙ sym n_is
 same_left d l m n final ms ns tails is (refused_first item s index value rest m_is are parsed of refused) (no_room word2 rest2 n_is are2 limit2) =
     let first = head_same item (spec.positional word2) rest rest2 (sym are ∙ is ∙ are2) in

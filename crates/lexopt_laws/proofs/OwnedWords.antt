@@ -2,6 +2,7 @@
 use Rattle.std.proofs.Common.{◌≡◌, ◌<◌, ◌⊎◌, ℕ, zero, suc, List, [], ◌∷◌, take, slice_get, Option, Some, None, refl, sym, ap, subst, ◌∙◌, inl, inr, ⊎_elim, lit≤, lit<, arith}
 use Rattle.std.specs.List.{AllZip, Contains}
 use Rattle.std.proofs.lemmas.List.Elements.{Contains-append_right}
+use Rattle.lexopt_line_spec.proofs.Names.{contains_first}
 use Rattle.lexopt_options_spec.specs.Completion.{AreOwners, AreOwnersIn, CanOwn, IsAscending, Role, argument, value}
 use Rattle.lexopt_options_spec.specs.Declaration.{Positional}
 use Rattle.lexopt_options_spec.specs.Places.{CanTake, owners}
@@ -13,9 +14,6 @@ use Rattle.lexopt_laws.specs.Sample.{mode, new, old, target}
 
 none : (i : ℕ) → Contains [] i → ⊥
 none i has = let low = has.1 in omega (arith, low)
-
-here : (x : ℕ) (l : List ℕ) → Contains (x ∷ l) x
-here x l = (zero, omega arith, refl)
 
 there : (x : ℕ) (l : List ℕ) (i : ℕ) → Contains l i → Contains (x ∷ l) i
 there x l i has = Contains-append_right (x ∷ []) l i has
@@ -40,9 +38,9 @@ rest_has x xs ys up all i has =
 
 same_list : (xs ys : List ℕ) → IsAscending xs → IsAscending ys → ((i : ℕ) → Contains xs i → Contains ys i) → ((i : ℕ) → Contains ys i → Contains xs i) → xs ≡ ys
 same_list [] [] up vp all back = refl
-same_list [] (y ∷ ys) up vp all back = absurd (none y (back y (here y ys)))
-same_list (x ∷ xs) [] up vp all back = absurd (none x (all x (here x xs)))
-same_list (x ∷ xs) (y ∷ ys) up vp all back = go (same_list xs ys (rest_up x xs up)) y (first_same x y xs ys up vp (all x (here x xs)) (back y (here y ys))) vp all back
+same_list [] (y ∷ ys) up vp all back = absurd (none y (back y (contains_first y ys)))
+same_list (x ∷ xs) [] up vp all back = absurd (none x (all x (contains_first x xs)))
+same_list (x ∷ xs) (y ∷ ys) up vp all back = go (same_list xs ys (rest_up x xs up)) y (first_same x y xs ys up vp (all x (contains_first x xs)) (back y (contains_first y ys))) vp all back
   where
     tails : (IsAscending ys → ((i : ℕ) → Contains xs i → Contains ys i) → ((i : ℕ) → Contains ys i → Contains xs i) → xs ≡ ys) → IsAscending (x ∷ ys) → ((i : ℕ) → Contains (x ∷ xs) i → Contains (x ∷ ys) i) → ((i : ℕ) → Contains (x ∷ ys) i → Contains (x ∷ xs) i) → x ∷ xs ≡ x ∷ ys
     tails same wp all back = ap (λ l. x ∷ l) (same (rest_up x ys wp) (rest_has x xs ys up all) (rest_has x ys xs wp back))
@@ -101,8 +99,8 @@ pub owners_of_both : AreOwners (old ∷ new ∷ []) 0 (0 ∷ 1 ∷ [])
 owners_of_both = record {
   sound = λ i has. ⊎_elim (λ same. subst (λ n. CanOwn (old ∷ new ∷ []) 0 n) same owns_old)
       (λ later. ⊎_elim (λ same. subst (λ n. CanOwn (old ∷ new ∷ []) 0 n) same owns_new) (λ no. absurd (none i no)) (cons_cases 1 [] i later)) (cons_cases 0 (1 ∷ []) i has);
-  complete = λ i can. ⊎_elim (λ same. subst (λ n. Contains (0 ∷ 1 ∷ []) n) (sym same) (here 0 (1 ∷ [])))
-      (λ same. subst (λ n. Contains (0 ∷ 1 ∷ []) n) (sym same) (there 0 (1 ∷ []) 1 (here 1 [])))
+  complete = λ i can. ⊎_elim (λ same. subst (λ n. Contains (0 ∷ 1 ∷ []) n) (sym same) (contains_first 0 (1 ∷ [])))
+      (λ same. subst (λ n. Contains (0 ∷ 1 ∷ []) n) (sym same) (there 0 (1 ∷ []) 1 (contains_first 1 [])))
       (old_or_new can.count i can.are_places.shares can.longer can.are_places.are_shares.each (subst (λ l. slice_get l 0 ≡ Some i) can.are_places.placed can.here));
   in_order = (lit< tt, tt);
 }
@@ -160,14 +158,14 @@ not_target can = let same = first_owner 1 can in omega (arith, same)
 pub owner_is_mode : AreOwners (mode ∷ target ∷ []) 0 (0 ∷ [])
 owner_is_mode = record {
   sound = λ i has. ⊎_elim (λ same. subst (λ n. CanOwn (mode ∷ target ∷ []) 0 n) same owns_mode) (λ no. absurd (none i no)) (cons_cases 0 [] i has);
-  complete = λ i can. subst (λ n. Contains (0 ∷ []) n) (sym (first_owner i can)) (here 0 []);
+  complete = λ i can. subst (λ n. Contains (0 ∷ []) n) (sym (first_owner i can)) (contains_first 0 []);
   in_order = tt;
 }
 
 pub owner_is_target : AreOwners (mode ∷ target ∷ []) 1 (1 ∷ [])
 owner_is_target = record {
   sound = λ i has. ⊎_elim (λ same. subst (λ n. CanOwn (mode ∷ target ∷ []) 1 n) same owns_target) (λ no. absurd (none i no)) (cons_cases 1 [] i has);
-  complete = λ i can. subst (λ n. Contains (1 ∷ []) n) (sym (second_owner i can)) (here 1 []);
+  complete = λ i can. subst (λ n. Contains (1 ∷ []) n) (sym (second_owner i can)) (contains_first 1 []);
   in_order = tt;
 }
 

@@ -6,7 +6,7 @@ use Rattle.std.specs.Option.{option_map}
 use Rattle.std.proofs.lemmas.Bool.{and_parts, eqb-true, false≢true, lt-ltb, or_left, or_right, true≢false}
 use Rattle.std.proofs.lemmas.List.Elements.{All-cons, All-head, All-nil, All-tail}
 use Rattle.std.proofs.lemmas.List.Folds.{find_at}
-use Rattle.std.proofs.lemmas.Option.{slice_get_cases}
+use Rattle.std.proofs.lemmas.Option.{same_Some, slice_get_cases}
 use Rattle.lexopt_options_spec.specs.Declaration.{Declared, Words, accepts, files, directories, text, listed}
 use Rattle.lexopt_options_spec.specs.Legal.{Parsed, option, several, positional, accepts_at, is_option, refused_value}
 use Rattle.lexopt_options_spec.proofs.Tables.{pointwise_refl}
@@ -88,9 +88,6 @@ passes_outside list p tests value outside = go (is_in list value) refl
     go true is = absurd (outside (in_list list value is))
     go false is = tests value ∙ ap not is
 
-some_same : {X : Type 0} (x y : X) → Some x ≡ Some y → x ≡ y
-some_same x y is = cc
-
 found_outside : (list : List (List ℕ)) (p : List ℕ → Bool) → Tests list p → (values : List (List ℕ)) (value : List ℕ) → find p values ≡ Some value → IsFirstOutside list values value
 found_outside list p tests [] value is = absurd (let e : None ≡ Some value = is in cc)
 found_outside list p tests (v ∷ values) value is = go (is_in list v) refl (found_outside list p tests values value)
@@ -106,7 +103,7 @@ found_outside list p tests (v ∷ values) value is = go (is_in list v) refl (fou
           outside = rest.outside;
         }
     go false other others =
-        let same = some_same v value (sym (ap (λ (b : Bool). cond b (Some v) (find p values)) (tests v ∙ ap not other)) ∙ is) in
+        let same = same_Some v value (sym (ap (λ (b : Bool). cond b (Some v) (find p values)) (tests v ∙ ap not other)) ∙ is) in
         record {
           before = [];
           after = values;

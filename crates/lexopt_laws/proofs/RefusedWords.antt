@@ -3,6 +3,7 @@ use Rattle.std.proofs.Common.{◌≡◌, ◌<◌, ◌≤◌, ℕ, zero, suc, Boo
 use Rattle.std.specs.List.{Contains}
 use Rattle.std.specs.Option.{option_map}
 use Rattle.std.proofs.lemmas.Bool.{false≢true, true≢false}
+use Rattle.std.proofs.lemmas.Option.{same_Some}
 use Rattle.lexopt_spec.specs.UnreadLine.{UnreadLine}
 use Rattle.lexopt_line_spec.specs.Table.{Item}
 use Rattle.lexopt_line_spec.specs.Readings.{ReadsFirst, ReadsItems, start}
@@ -12,17 +13,11 @@ use Rattle.lexopt_options_spec.specs.Places.{ArePlaces, AreTaken, IsNotTaken, le
 use Rattle.lexopt_options_spec.specs.Stops.{Mistake, ReadsUpTo, Stops, StopsAt, invalid_argument, invalid_value, missing_argument, missing_option, missing_value, unexpected_argument, unexpected_value, unknown_option, not_declared, value_of_flag, no_value, not_accepted, one_too_many, too_few, not_taken, not_complete}
 use Rattle.lexopt_options_spec.proofs.Fronts.{ComesTo, comes_to, front_later, no_front, not_refused, one_front}
 use Rattle.lexopt_options_spec.proofs.Shares.{one_places}
-use Rattle.lexopt_options_spec.proofs.Taken.{not_both, one_refused, words_count}
+use Rattle.lexopt_options_spec.proofs.Taken.{none_first, not_both, one_refused, same_within, some_pair, words_count}
 use Rattle.lexopt_laws.specs.ListedValues.{IsFirstRefused}
 use Rattle.lexopt_laws.proofs.OneStop.{one_item}
 use Rattle.lexopt_laws.proofs.Refused.{found_in, in_list}
-use Rattle.lexopt_laws.proofs.SomeAnswer.{one_more, same_within, some_answer, whole_front}
-
-some_same : {X : Type 0} (x y : X) → Some x ≡ Some y → x ≡ y
-some_same x y is = cc
-
-same_pair : (p q : ℕ × List ℕ) → Some p ≡ Some q → (p.0 ≡ q.0) × (p.1 ≡ q.1)
-same_pair p q same = let e : p ≡ q = ap (λ o. unwrap_or o p) same in (ap (λ (r : ℕ × List ℕ). r.0) e, ap (λ (r : ℕ × List ℕ). r.1) e)
+use Rattle.lexopt_laws.proofs.SomeAnswer.{one_more, some_answer, whole_front}
 
 -- ---- the first word that is refused
 
@@ -44,10 +39,10 @@ first_refused ps (j ∷ places) (w ∷ words) i word is = go (takes_at ps j w) r
         earlier : (at : ℕ) → ((n k : ℕ) (v : List ℕ) → n < at → slice_get words n ≡ Some v → slice_get places n ≡ Some k → takes_at ps k v ≡ true) → (n k : ℕ) (v : List ℕ) → n < suc at
             → slice_get (w ∷ words) n ≡ Some v → slice_get (j ∷ places) n ≡ Some k → takes_at ps k v ≡ true
         earlier at before zero k v below here belongs =
-            subst (λ x. takes_at ps x v ≡ true) (some_same j k belongs) (subst (λ x. takes_at ps j x ≡ true) (some_same w v here) takes)
+            subst (λ x. takes_at ps x v ≡ true) (same_Some j k belongs) (subst (λ x. takes_at ps j x ≡ true) (same_Some w v here) takes)
         earlier at before (suc n) k v below here belongs = before n k v (omega (arith, below)) here belongs
     go false fails rest =
-        let same = same_pair (j, w) (i, word) (sym (ap (λ (b : Bool). cond b (refused_word ps places words) (Some (j, w))) fails) ∙ is) in record {
+        let same = some_pair (j, w) (i, word) (sym (ap (λ (b : Bool). cond b (refused_word ps places words) (Some (j, w))) fails) ∙ is) in record {
           at = 0;
           here = ap (λ x. Some x) same.1;
           belongs = ap (λ x. Some x) same.0;
@@ -60,8 +55,8 @@ refused_at : (ps : List Positional) (places : List ℕ) (words : List (List ℕ)
 refused_at ps [] words i word at here belongs fails before = absurd (let e : None ≡ Some i = belongs in cc)
 refused_at ps (j ∷ places) [] i word at here belongs fails before = absurd (let e : None ≡ Some word = here in cc)
 refused_at ps (j ∷ places) (w ∷ words) i word zero here belongs fails before =
-    let one = some_same w word here in
-    let index = some_same j i belongs in
+    let one = same_Some w word here in
+    let index = same_Some j i belongs in
     let there : takes_at ps j w ≡ false = subst (λ x. takes_at ps x w ≡ false) (sym index) (subst (λ x. takes_at ps i x ≡ false) (sym one) fails) in
     ap (λ (b : Bool). cond b (refused_word ps places words) (Some (j, w))) there ∙ ap (λ x. Some (x, w)) index ∙ ap (λ x. Some (i, x)) one
 refused_at ps (j ∷ places) (w ∷ words) i word (suc at) here belongs fails before =
@@ -73,17 +68,13 @@ refused_first ps places words i word first = refused_at ps places words i word f
 
 -- ---- if none is refused
 
-none_first : (b : Bool) (o : Option (ℕ × List ℕ)) (p : ℕ × List ℕ) → cond b o (Some p) ≡ None → (b ≡ true) × (o ≡ None)
-none_first true o p is = (refl, is)
-none_first false o p is = absurd (let e : Some p ≡ None = is in cc)
-
 pub each_taken : (ps : List Positional) (places : List ℕ) (words : List (List ℕ)) (n i : ℕ) (word : List ℕ) → refused_word ps places words ≡ None → slice_get words n ≡ Some word → slice_get places n ≡ Some i
     → takes_at ps i word ≡ true
 each_taken ps [] words n i word none here belongs = absurd (let e : None ≡ Some i = belongs in cc)
 each_taken ps (j ∷ places) [] n i word none here belongs = absurd (let e : None ≡ Some word = here in cc)
 each_taken ps (j ∷ places) (w ∷ words) zero i word none here belongs =
     let parts = none_first (takes_at ps j w) (refused_word ps places words) (j, w) none in
-    subst (λ x. takes_at ps x word ≡ true) (some_same j i belongs) (subst (λ x. takes_at ps j x ≡ true) (some_same w word here) parts.0)
+    subst (λ x. takes_at ps x word ≡ true) (same_Some j i belongs) (subst (λ x. takes_at ps j x ≡ true) (same_Some w word here) parts.0)
 each_taken ps (j ∷ places) (w ∷ words) (suc n) i word none here belongs =
     let parts = none_first (takes_at ps j w) (refused_word ps places words) (j, w) none in each_taken ps places words n i word parts.1 here belongs
 

@@ -5,15 +5,10 @@ use Rattle.lexopt_spec.specs.UnreadLine.{UnreadLine, IsLine}
 use Rattle.lexopt_spec.specs.Steps.{Reply, no_memory}
 use Rattle.lexopt_spec.specs.Runs.{Call, Step, Run}
 use Rattle.lexopt_line_spec.proofs.Exact.{Same}
+use Rattle.lexopt_line_spec.proofs.Bounds.{among_first, among_more}
 use Rattle.lexopt_line_spec.proofs.Calls.{call_answer, call_same}
 use Rattle.lexopt_line_spec.proofs.RunAccounts.{step_line}
 use Rattle.lexopt_laws.proofs.Refusals.{other_with_memory}
-
-among_more : (r s : Reply) (rs : List Reply) → IsAmong rs s → IsAmong (r ∷ rs) s
-among_more r s rs is = (suc is.0, (let below = is.1.0 in omega arith, is.1.1))
-
-among_first : (r s : Reply) (rs : List Reply) → r ≡ s → IsAmong (r ∷ rs) s
-among_first r s rs is = (0, (omega arith, sym is))
 
 among_none : (s : Reply) → IsAmong [] s → ⊥
 among_none s is = let below = is.1.0 in absurd (omega arith)

@@ -1,5 +1,5 @@
 -- A line is read to its end under a declaration, or its reading stops at a mistake.
-use Rattle.std.proofs.Common.{◌≡◌, ◌≢◌, ◌<◌, ◌≤◌, ◌⊎◌, ℕ, zero, suc, ◌+◌, ◌==◌, Bool, true, false, List, [], ◌∷◌, ◌++◌, Option, Some, None, is_none, refl, sym, ap, subst, ◌∙◌, inl, inr, ⊎_elim, arith}
+use Rattle.std.proofs.Common.{append-nil, ◌≡◌, ◌≢◌, ◌<◌, ◌≤◌, ◌⊎◌, ℕ, zero, suc, ◌+◌, ◌==◌, Bool, true, false, List, [], ◌∷◌, ◌++◌, Option, Some, None, is_none, refl, sym, ap, subst, ◌∙◌, inl, inr, ⊎_elim, arith}
 use Rattle.std.proofs.lemmas.Bool.{and_from, false≢true, eqb-true, eq-eqb}
 use Rattle.std.specs.Option.{option_map}
 use Rattle.lexopt_spec.specs.UnreadLine.{UnreadLine, IsLine}
@@ -26,10 +26,10 @@ use Rattle.lexopt_options_spec.specs.Declaration.{Declaration, index_of, is_soun
 use Rattle.lexopt_options_spec.specs.Legal.{Parsed, option, several, positional, parsed_item, counts, positional_count, positional_words, most, IsWithin, is_required, occurs, Means, MeansFront, are_accepted, is_option, refused_value}
 use Rattle.lexopt_options_spec.specs.Places.{AreTaken, IsNotTaken, least}
 use Rattle.lexopt_options_spec.specs.Stops.{Mistake, unknown_option, unexpected_value, missing_value, invalid_value, unexpected_argument, invalid_argument, missing_argument, missing_option, IsFirstMissing, Stops, not_declared, value_of_flag, no_value, not_accepted, one_too_many, too_few, not_taken, not_complete, ReadsUpTo, StopsAt}
-use Rattle.lexopt_options_spec.proofs.Fronts.{front_parsed}
+use Rattle.lexopt_options_spec.proofs.Fronts.{front_parsed, nothing_read}
 use Rattle.lexopt_options_spec.proofs.Listed.{accepted_append}
 use Rattle.lexopt_options_spec.proofs.Lists.{count_append, joined}
-use Rattle.lexopt_options_spec.proofs.Taken.{taken_or_not, words_count}
+use Rattle.lexopt_options_spec.proofs.Taken.{same_within, taken_or_not, words_count, zero_within}
 use Rattle.lexopt_laws.proofs.Missing.{complete_or_missing}
 
 -- ---- what is read for one item
@@ -88,19 +88,6 @@ first_items t u v w name optional call words is due full step takes = absurd (ki
 
 -- ---- what was read, and one more item
 
-pub zero_within : (limit : Option ℕ) → IsWithin 0 limit
-zero_within None = tt
-zero_within (Some n) = omega arith
-
-pub nothing_read : (d : Declaration) (u : UnreadLine) → IsLine u → ReadsUpTo d u [] u
-nothing_read d u line = record {
-  items = [];
-  read = refl;
-  line = line;
-  parsed = refl;
-  within = zero_within (most d.positionals);
-}
-
 pub one_more : (d : Declaration) (u v w : UnreadLine) (l : List Parsed) (item : Item) (s : Parsed) → ReadsUpTo d u l v → ReadsFirst (table d.options) v item w → IsLine w
     → parsed_item d.options item ≡ Some s → IsWithin (positional_count l + counts s) (most d.positionals) → ReadsUpTo d u (l ++ s ∷ []) w
 one_more d u v w l item s read first line parsed within = record {
@@ -110,10 +97,6 @@ one_more d u v w l item s read first line parsed within = record {
   parsed = joined (parsed_item d.options) read.items l item s read.parsed parsed;
   within = subst (λ n. IsWithin n (most d.positionals)) (sym (count_append l (s ∷ []) ∙ ap (λ n. positional_count l + n) (omega arith))) within;
 }
-
-pub same_within : (n k : ℕ) (limit : Option ℕ) → k ≡ 0 → IsWithin n limit → IsWithin (n + k) limit
-same_within n k None none within = tt
-same_within n k (Some m) none within = omega arith
 
 -- a single item
 pub one_read : (d : Declaration) (u v : UnreadLine) (item : Item) (s : Parsed) → IsLine u → ReadsFirst (table d.options) u item v → IsLine v
@@ -250,14 +233,10 @@ found_within d u (suc n) l v read accepted less =
     let a = next_answer v read.line in
     reply_found d u v a.1 l n a.0 read accepted a.2 (next_reply v a.1 a.0 a.2) less (found_within d u n)
 
-append_nil : (l : List Item) → l ++ [] ≡ l
-append_nil [] = refl
-append_nil (x ∷ l) = ap (λ m. x ∷ m) (append_nil l)
-
 -- words that are read to the end mean what was read
 pub whole_front : (d : Declaration) (words : List (List ℕ)) (l : List Parsed) (v w : UnreadLine) → is_sound d.options ≡ true → ReadsUpTo d (start d.short_equals words) l v → Next v steps.end w → MeansFront d words l
 whole_front d words l v w sound read ends = front_parsed d sound words read.items l
-    (subst (IsReading (table d.options) (start d.short_equals words) steps.end) (append_nil read.items)
+    (subst (IsReading (table d.options) (start d.short_equals words) steps.end) (append-nil read.items)
     (says_items (table d.options) (start d.short_equals words) v read.items read.read steps.end [] (reads_last (table d.options) v w steps.end tt ends)))
     read.parsed read.within
 

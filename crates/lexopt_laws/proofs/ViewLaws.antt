@@ -5,6 +5,7 @@ use Rattle.lexopt_spec.specs.Steps.{Reply, maybe, busy, unexpected, OptionalStep
 use Rattle.lexopt_spec.specs.Views.{plain_front, available, available_with, values_left, ValuesStep, no_values, some_values, Stage, going_on, ValueItem, RawStep, refuses_pending, lends_words, TryRawStep, leaves_pending, try_lends_words, TakesWords}
 use Rattle.lexopt_spec.proofs.PlainFronts.{plain_holds, plain_passes, front-more, front-less}
 use Rattle.lexopt_spec.proofs.ViewLemmas.{item_is_first, none_ends}
+use Rattle.lexopt_line_spec.proofs.Worked.{some as some_words}
 
 abbrev is_busy : Reply → Type 0
 is_busy busy = Unit {0}
@@ -46,9 +47,6 @@ first_comes u v now some item =
     some (item_is_first going_on u None v now item ∙ ap (λ s. values_left s v) (none_ends going_on u v now item).1)
 
 -- ---- when there are values
-
-some_words : (w : List ℕ) (ws : List (List ℕ)) → w ∷ ws ≢ []
-some_words w ws is = let e : w ∷ ws ≡ [] = is in cc
 
 front_some : (ended : Bool) (words : List (List ℕ)) → IsNormalIn ended words → plain_front ended words ≢ []
 front_some ended [] normal = absurd normal

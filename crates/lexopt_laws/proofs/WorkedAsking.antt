@@ -14,7 +14,8 @@ use Rattle.lexopt_options_spec.specs.Declaration.{Asked, Declaration, table}
 use Rattle.lexopt_options_spec.specs.Legal.{Parsed, option, parsed_item, most, IsWithin, are_accepted, positional_count}
 use Rattle.lexopt_options_spec.specs.Stops.{ReadsUpTo}
 use Rattle.lexopt_options_spec.proofs.Listed.{accepted_append}
-use Rattle.lexopt_laws.proofs.SomeAnswer.{nothing_read, one_more}
+use Rattle.lexopt_options_spec.proofs.Fronts.{nothing_read}
+use Rattle.lexopt_laws.proofs.SomeAnswer.{one_more}
 
 -- where `next` returns this, it does not return an unexpected value
 pub no_value_there : (v w : UnreadLine) (r : Reply) → NextStep v r w → ((o x : List ℕ) → r ≡ steps.unexpected o x → ⊥) → (o x : List ℕ) (after : UnreadLine) → Next v (steps.unexpected o x) after → ⊥

@@ -1,6 +1,6 @@
 -- Damage in worked examples: what is shown as U+FFFD, and words that spell nothing.
-use Rattle.std.proofs.Common.{◌≡◌, ◌≢◌, ℕ, Bool, true, false, ◌&&◌, List, [], ◌∷◌, ◌++◌, Some, None, encode_utf8, encode_utf8_all, length, refl, sym, ap, subst, ◌∙◌, arith, inr, true≢false, cond}
-use Rattle.std.proofs.lemmas.Bool.{ne_eqb}
+use Rattle.std.proofs.Common.{◌≡◌, ◌≢◌, ℕ, Bool, false, List, [], ◌∷◌, ◌++◌, Some, None, encode_utf8, encode_utf8_all, length, refl, sym, ap, subst, ◌∙◌, arith, inr, true≢false, cond}
+use Rattle.std.proofs.lemmas.Bool.{and_parts, ne_eqb}
 use lib.Utf8.{scalar, scalars}
 use Rattle.std.specs.Char.{IsScalar}
 use Rattle.std.specs.Str.{IsUtf8}
@@ -19,10 +19,6 @@ pub damage_of : (b : ℕ) (bs after : List ℕ) → decoded (b ∷ bs ++ after) 
 damage_of b bs after is = inr (refl, decoded_is_first (b ∷ bs ++ after) (bad (length (b ∷ bs))) (omega arith) is)
 
 -- no UTF-8 begins with FF
-both : (a b : Bool) → a && b ≡ true → (a ≡ true) × (b ≡ true)
-both true b is = (refl, is)
-both false b is = absurd (true≢false (sym is))
-
 ff_is_damage : (bs : List ℕ) → (decoded (0xFF ∷ bs)).char ≡ None
 ff_is_damage bs = ap (λ (t : Bool). (cond t (bad 0) (bad 1)).char) (ne_eqb (length (0xFF ∷ bs)) 0 (omega arith))
 
@@ -34,7 +30,7 @@ ff_no_character c bytes after bs scalar is all =
 
 ff_no_text : (bs : List ℕ) → IsUtf8 (0xFF ∷ bs) → ⊥
 ff_no_text bs ([], (scalars_are, is)) = let e : [] ≡ 0xFF ∷ bs = is in cc
-ff_no_text bs (c ∷ cs, (scalars_are, is)) = ff_no_character c (encode_utf8 c) (encode_utf8_all cs) bs (both (scalar c) (scalars cs) scalars_are).0 refl is
+ff_no_text bs (c ∷ cs, (scalars_are, is)) = ff_no_character c (encode_utf8 c) (encode_utf8_all cs) bs (and_parts (scalar c) (scalars cs) scalars_are).0 refl is
 
 ff_no_cluster : (t : Table) (short_equals : Bool) (words left : List (List ℕ)) (bytes bs : List ℕ) (items : List Item) → bytes ≡ 0xFF ∷ bs → Cluster exact t short_equals words left bytes items → ⊥
 ff_no_cluster t short_equals words left bytes bs items is (flag_first c character others more letter k no_mark spelled) = ff_no_character c character others bs letter.0 letter.1 is

@@ -17,9 +17,10 @@ use Rattle.lexopt_options_spec.specs.Declaration.{Declaration, for_help, is_soun
 use Rattle.lexopt_options_spec.specs.Leading.{AsksLeading, IsSplit, LeadingStopsAt, MeansLeading, StopsOptions, at_option, ends, lacks_option, positional}
 use Rattle.lexopt_options_spec.specs.Legal.{IsWithin, Parsed, most, option, positional_count, parsed_item, several}
 use Rattle.lexopt_options_spec.specs.Stops.{Mistake, missing_option, not_declared, unknown_option}
+use Rattle.lexopt_options_spec.proofs.Fronts.{nothing_read}
 use Rattle.lexopt_laws.specs.Sample.{asking_sample, demanding_sample, files, sample}
 use Rattle.lexopt_laws.proofs.Missing.{are_complete, is_first_missing}
-use Rattle.lexopt_laws.proofs.SomeAnswer.{nothing_read, one_more}
+use Rattle.lexopt_laws.proofs.SomeAnswer.{one_more}
 use Rattle.lexopt_laws.proofs.WorkedAsking.{asks_first, asks_second, asks_then}
 
 word_same : (w v : List ℕ) (ws vs : List (List ℕ)) → w ∷ ws ≡ v ∷ vs → w ≡ v

@@ -11,7 +11,8 @@ use Rattle.lexopt_line_spec.proofs.RunAccounts.{step_line}
 use Rattle.lexopt_options_spec.specs.Declaration.{Declaration, table}
 use Rattle.lexopt_options_spec.specs.Legal.{option, positional, parsed_item, most, IsWithin, are_accepted}
 use Rattle.lexopt_options_spec.specs.Stops.{Mistake, Stops, StopsAt}
-use Rattle.lexopt_laws.proofs.SomeAnswer.{nothing_read, one_more}
+use Rattle.lexopt_options_spec.proofs.Fronts.{nothing_read}
+use Rattle.lexopt_laws.proofs.SomeAnswer.{one_more}
 
 -- at the first word
 pub at_first : {d : Declaration} {words : List (List ℕ)} {m : Mistake} → Stops d [] (start d.short_equals words) m → StopsAt d words [] m

@@ -15,14 +15,14 @@ use Rattle.lexopt_options_spec.specs.Legal.{IsWithin, Means, MeansFront, most, p
 use Rattle.lexopt_options_spec.specs.Places.{ArePlaces, AreShares, AreTaken, CanTake, IsNotTaken, least, owners, refused_word}
 use Rattle.lexopt_options_spec.specs.Completion.{CanOccur, IsOpen}
 use Rattle.lexopt_options_spec.specs.Stops.{Mistake, ReadsUpTo, Stops, StopsAt, invalid_argument, missing_argument, not_taken, too_few}
-use Rattle.lexopt_options_spec.proofs.Fronts.{one_front}
+use Rattle.lexopt_options_spec.proofs.Fronts.{nothing_read, one_front}
 use Rattle.lexopt_options_spec.proofs.Shares.{greedy_are_shares}
 use Rattle.lexopt_options_spec.specs.Places.{greedy}
 use Rattle.lexopt_options_spec.proofs.Occurs.{occurs_taken}
-use Rattle.lexopt_options_spec.proofs.Taken.{AreFilled}
+use Rattle.lexopt_options_spec.proofs.Taken.{AreFilled, some_none}
 use Rattle.lexopt_options_spec.specs.Completion.{CanBeTaken}
 use Rattle.lexopt_laws.specs.Sample.{demanding_sample, files, form_in_list, mode_in_list, new, sample, sources}
-use Rattle.lexopt_laws.proofs.SomeAnswer.{nothing_read, one_more}
+use Rattle.lexopt_laws.proofs.SomeAnswer.{one_more}
 use Rattle.lexopt_laws.proofs.WorkedOpen.{open_of}
 use Rattle.lexopt_laws.proofs.WorkedMeans.{front_of, whole_with}
 use Rattle.lexopt_laws.proofs.WorkedStops.{after_positional}
@@ -116,9 +116,6 @@ open_after_source = open_of (spec.positional (codes "a") ∷ []) (plain_line (co
 
 pub source_filled : AreFilled (sources ∷ form_in_list ∷ []) (codes "a" ∷ [])
 source_filled = record { more = codes "tar" ∷ []; enough = lit≤ tt; within = tt; taken = taken_with 0 tt refl refl }
-
-some_none : (p : ℕ × List ℕ) → Some p ≡ None → ⊥
-some_none p same = let e : Some p ≡ None = same in cc
 
 -- `fats`
 not_first : (count : ℕ) (shares : List ℕ) → 1 ≤ count → AllZip (λ p n. CanTake p.count n) (mode_in_list ∷ files ∷ []) shares
