@@ -1,14 +1,13 @@
 -- The items after an item: the calls that look ahead, and the rules.
-use Rattle.std.proofs.Common.{◌≡◌, ◌↔◌, IsTrue, ℕ, suc, ◌+◌, ◌-◌, ◌<◌, ◌≤◌, ◌&&◌, not, Bool, true, false, List, [], ◌∷◌, length, map, take, drop, get_or, length-drop, add-one, refl, sym, ap, subst, ◌∙◌, arith, true≢false}
+use Rattle.std.proofs.Common.{◌≡◌, ◌↔◌, IsTrue, ℕ, suc, ◌+◌, ◌-◌, ◌<◌, ◌≤◌, not, Bool, true, false, List, [], ◌∷◌, length, map, take, drop, get_or, length-drop, add-one, refl, sym, ap, subst, ◌∙◌, arith, true≢false}
 use Rattle.std.specs.List.{list_all}
 use Rattle.std.proofs.Math.Seq.{drop-cons, take-length}
 use Rattle.std.proofs.lemmas.List.Folds.{list_all-map}
-use Rattle.lexopt_spec.specs.UnreadLine.{is_plain}
 use Rattle.lexopt_line_spec.specs.Table.{Item, option, many, positional}
 use Rattle.lexopt_line_spec.specs.Speller.{is_positional, ArePositionals, ArePositionalThenOption, NeedSeparator}
 use Rattle.lexopt_line_spec.proofs.SpellerTests.{all_plain, all_pass}
 use Rattle.lexopt_line_spec.proofs.SpellerPlaces.{all_positional}
-use Rattle.lexopt_line_spec.proofs.SpellerRows.{positionals_pass}
+use Rattle.lexopt_line_spec.proofs.SpellerRows.{positionals_pass, words_plain}
 use Rattle.lexopt_spell.specs.Models.{is_plain_item}
 
 -- a list from a place on, as the code slices it
@@ -51,10 +50,6 @@ others_asked f [] x b some is first asked = absurd (omega (arith, some))
 others_asked f (y ∷ ys) x b some is first asked =
     then_option (f y) (map f ys) b (ap (λ z. is_positional (f z)) (sym is) ∙ first)
     (asked ∙ ap (list_all (λ y. is_positional (f y))) (from_on_is 1 (y ∷ ys)) ∙ sym (list_all-map is_positional f ys))
-
-words_plain : (words : List (List ℕ)) → list_all is_plain_item (map positional words) ≡ list_all (is_plain false) words
-words_plain [] = refl
-words_plain (w ∷ ws) = ap (λ b. is_plain false w && b) (words_plain ws)
 
 -- all items are positionals, and whether they are plain decides
 pub row_asked : {X : Type 0} (f : X → Item) (xs : List X) (b : Bool) → list_all (λ y. is_positional (f y)) xs ≡ true → b ≡ list_all (λ y. is_plain_item (f y)) xs

@@ -6,6 +6,7 @@ use Rattle.lexopt_line_spec.specs.Table.{Name, Item, Kind, Table}
 use Rattle.lexopt_line_spec.specs.Spelling.{After}
 use Rattle.lexopt_line_spec.specs.Speller as rows
 use Rattle.lexopt_line_spec.specs.Speller.{Reason, Place, open_line, in_cluster, after_values, after_positional, ended, HasForm, Adds, GoesOn, CannotBeSpelled, SpelledFrom, SpelledAs, FaultFrom}
+use Rattle.lexopt_line_spec.proofs.SpellerAgrees.{none_first}
 use Rattle.lexopt_spell.specs.Models.{AddsOrGoesOn}
 use Rattle.lexopt_spell.specs.Words.{onto_last, pushed}
 use Rattle.lexopt_spell.proofs.After.{from_on, from_on_is, at_item}
@@ -32,11 +33,6 @@ adds_calm t short_equals later place item word more next adds at = cc
 goes_calm : (t : Table) (short_equals : Bool) (later : List Item) (place : Place) (item : Item) (word : List ℕ) (more : List (List ℕ)) (next : Place)
     → GoesOn t short_equals later place item word more next → next ≡ in_cluster → more ≡ []
 goes_calm t short_equals later place item word more next (rows.dash_option q i after words form) at = form_calm _ _ _ _ _ _ _ _ form at
-
-none_first : (t : Table) (short_equals : Bool) (place : Place) (items : List Item) (bytes : List ℕ) (words : List (List ℕ)) → place ≢ in_cluster
-    → SpelledFrom t short_equals place items bytes words → bytes ≡ []
-none_first t short_equals place items bytes words other (rows.same_word p q item later word bs more ws (rows.dash_option r i after vs form) spelled) = absurd (other refl)
-none_first t short_equals place items bytes words other spelled = refl
 
 either : (next : Place) (bytes : List ℕ) (more : List (List ℕ)) → (next ≡ in_cluster → more ≡ []) → (next ≢ in_cluster → bytes ≡ []) → (more ≡ []) ⊎ (bytes ≡ [])
 either in_cluster bytes more calm none = inl (calm refl)
