@@ -1,5 +1,5 @@
 -- Each command is found by its name.
-use Rattle.std.proofs.Common.{◌≡◌, ◌==◌, ◌+◌, nat_lt, not, suc, zero, ℕ, Bool, true, false, if◌then◌else◌, List, [], ◌∷◌, ◌++◌, length, take, position, Option, Some, None, refl, ap, sym, subst, ◌∙◌, append_assoc, arith}
+use Rattle.std.proofs.Common.{append-nil, ◌≡◌, ◌==◌, ◌+◌, nat_lt, not, suc, zero, ℕ, Bool, true, false, if◌then◌else◌, List, [], ◌∷◌, ◌++◌, length, take, position, Option, Some, None, refl, ap, sym, subst, ◌∙◌, append_assoc, arith}
 use Rattle.std.specs.Prelude.{is_none}
 use Rattle.std.specs.List.{list_any, position_or_len}
 use Rattle.std.specs.Option.{option_map}
@@ -8,7 +8,6 @@ use Rattle.std.specs.Cmp.Lexicographic.{pointwise}
 use Rattle.std.proofs.lemmas.Bool.{lt-ltb, or_parts}
 use Rattle.std.proofs.lemmas.Option.{slice_get-map, slice_get_within}
 use Rattle.lexopt_line_spec.proofs.Lists.{list_any-map}
-use Rattle.lexopt_options_spec.proofs.LeadingOptions.{append_nil}
 use Rattle.lexopt_options_spec.proofs.Tables.{pointwise_refl}
 use Rattle.lexopt_commands.specs.declared.command.Command.{Command}
 use Rattle.lexopt_commands.specs.declared.command.Reason.{Reason}
@@ -25,7 +24,7 @@ no_fault_at : (before names : List (List ℕ)) (i : ℕ) (name : List ℕ) → f
 no_fault_at before [] i name none at = absurd (let e : None ≡ Some name = at in cc)
 no_fault_at before (x ∷ xs) zero name none at =
     let is : x ≡ name = let e : Some x ≡ Some name = at in cc in
-    ap (λ l. fault l name) (append_nil before) ∙ subst (λ n. fault before n ≡ None) is (no_fault_first x (fault before x) (first_fault (before ++ x ∷ []) xs) none).0
+    ap (λ l. fault l name) (append-nil before) ∙ subst (λ n. fault before n ≡ None) is (no_fault_first x (fault before x) (first_fault (before ++ x ∷ []) xs) none).0
 no_fault_at before (x ∷ xs) (suc i) name none at =
     ap (λ l. fault l name) (sym (append_assoc before (x ∷ []) (take i xs))) ∙ no_fault_at (before ++ x ∷ []) xs i name (no_fault_first x (fault before x) (first_fault (before ++ x ∷ []) xs) none).1 at
 
