@@ -14,7 +14,10 @@ use Rattle.lexopt_spec.specs.UnreadLine.{BeginsWith, dash}
 use Rattle.lexopt_options_spec.specs.Declaration.{Declaration, Declared, has_name, index_of, is_long, is_short, is_sound}
 use Rattle.lexopt_options_spec.specs.Legal as legal
 use Rattle.lexopt_options_spec.specs.Legal.{MeansFront, parsed_item}
-use Rattle.lexopt_options_spec.proofs.Lists.{first_same}
+use Rattle.lexopt_options_spec.proofs.Lists.{first_same, same_last}
+use Rattle.lexopt_options_spec.proofs.States.{front_says, says_once}
+use Rattle.lexopt_options_spec.specs.States.{Says}
+use Rattle.lexopt_line_spec.specs.Spelling.{no_words, plain_word}
 use Rattle.lexopt_line_spec.specs.Table as table
 use Rattle.lexopt_line_spec.specs.Table.{Item, Name}
 use Rattle.lexopt_options_spec.specs.Completion as spec
@@ -48,6 +51,13 @@ use Rattle.lexopt_options_spec.specs.Legal.{refused_value}
 
 pub none_joined : (d : Declaration) (words : List (List ℕ)) (typed : List ℕ) → Opens d words false → IsJoined d words typed None
 none_joined d words typed none = λ i before joins. absurd (false≢true (none.1 (joins.parsed, joins.is_open)))
+
+-- no value is typed in a word that does not begin with a dash, since it is a positional
+pub plain_joined : (d : Declaration) (words : List (List ℕ)) (typed : List ℕ) → ¬ BeginsWith dash typed → IsJoined d words typed None
+plain_joined d words typed plain = λ i before joins.
+    let says : Says d (typed ∷ []) (legal.positional typed ∷ []) = record { items = table.positional typed ∷ []; spelled = plain_word typed [] [] (inr (inr plain)) no_words; parsed = refl } in
+    let same = says_once d (typed ∷ []) (legal.positional typed ∷ []) (joins.others ++ joins.last ∷ []) says (front_says d (typed ∷ []) (joins.others ++ joins.last ∷ []) joins.word_means) in
+    subst (IsOption i) (sym (same_last [] joins.others (legal.positional typed) joins.last same).1) joins.is
 
 pub joined_so_far : {X : Type 0} (d : Declaration) (typed : List ℕ) (opens : Bool) (view : X → spec.Joined) (r : Result (Option X) AllocError) → opens ≡ true
     → ((words : List (List ℕ)) → Opens d words true → IfOk r (λ found. IsJoined d words typed (option_map view found)))
@@ -100,14 +110,15 @@ offered d words typed list sound good named utf8 opens text is = record {
   in_order = inl is;
 }
 
--- the same for the spellings that a call returns
-pub offered_all : (d : Declaration) (typed : List ℕ) (r : Result (Vec Spelling Global) AllocError) (options : List Declared) (bytes : List ℕ) (b : Bool) → is_sound d.options ≡ true → are_listable d.positionals ≡ true → AreNamed d.options → IsUtf8 typed → b ≡ true
+-- the same for the spellings that a call returns, if this holds of the words
+pub offered_all : (d : Declaration) (typed : List ℕ) (r : Result (Vec Spelling Global) AllocError) (options : List Declared) (bytes : List ℕ) (P : List (List ℕ) → Type 0) → is_sound d.options ≡ true → are_listable d.positionals ≡ true → AreNamed d.options → IsUtf8 typed
+    → ((words : List (List ℕ)) → P words → CanCome d words true)
     → options ≡ d.options → bytes ≡ typed → AreText options → IfOk r (λ list. map spelling_view list.items ≡ filter (λ p. starts_with nat_eq p.0 bytes) (explained options))
-    → IfOk r (λ list. (words : List (List ℕ)) → CanCome d words b → AreOffered d words typed (map spelling_view list.items))
-offered_all d typed (Ok list) options bytes b sound good named utf8 can are also text is = λ words is_open.
-    offered d words typed (map spelling_view list.items) sound good named utf8 (subst (CanCome d words) can is_open) (subst AreText are text)
+    → IfOk r (λ list. (words : List (List ℕ)) → P words → AreOffered d words typed (map spelling_view list.items))
+offered_all d typed (Ok list) options bytes P sound good named utf8 can are also text is = λ words so.
+    offered d words typed (map spelling_view list.items) sound good named utf8 (can words so) (subst AreText are text)
     (is ∙ ap (λ b. filter (λ p. starts_with nat_eq p.0 b) (explained options)) also ∙ ap (λ os. filter (λ p. starts_with nat_eq p.0 typed) (explained os)) are)
-offered_all d typed (Err e) options bytes b sound good named utf8 can are also text is = tt
+offered_all d typed (Err e) options bytes P sound good named utf8 can are also text is = tt
 
 none_there : (s : List ℕ) → Contains [] s → ⊥
 none_there s (k, below, is) = omega (arith, below)

@@ -1,5 +1,5 @@
 -- What an index finds.
-use Rattle.std.proofs.Common.{◌≡◌, ◌<◌, ◌≤◌, ℕ, Bool, false, List, length, get_or, slice_get, unwrap_or, option_map, refl, ap}
+use Rattle.std.proofs.Common.{◌≡◌, ◌<◌, ◌≤◌, ℕ, Bool, false, List, length, get_or, unwrap_or, option_map, refl, ap}
 use Rattle.std.proofs.lemmas.Option.{slice_get_past}
 use Rattle.lexopt_declaration.specs.declared.declaration.Positional.{Positional}
 use Rattle.lexopt_declaration.specs.declared.declaration.Words.{Words}

@@ -351,22 +351,23 @@ impl<'a, F, V, P, M, S> Options<'a, F, V, P, M, S> {
     ghost use Rattle.lexopt_options.specs.Roles.{place_view};
     ghost use Rattle.lexopt_options.specs.States.{IsFrontOf};
 
-    // The spellings that begin with what was typed; none if no option can come there.
+    // The spellings that begin with what was typed; none if no option can come after words that mean
+    // this.
     fn spellings_for(
         &self,
         alloc: Global,
-        can_come: bool,
+        front: &Option<Front>,
         typed: &OsString,
     ) -> Result<Vec<Spelling<'a>>, AllocError>
         ensures { IfOk result (λ spellings. (words : List (List ℕ))
-            → CanCome (declaration_of self.now) words can_come
+            → IsFrontOf (declaration_of self.now) words front.now
             → AreOffered (declaration_of self.now) words typed.now
             (map spelling_view spellings.items)) }
     {
-        if !can_come {
+        if begins_otherwise(typed) {
             return Ok(Vec::new(alloc));
         }
-        if begins_otherwise(typed) {
+        if !can_come(self, front) {
             return Ok(Vec::new(alloc));
         }
         match typed.to_str() {
@@ -388,6 +389,10 @@ impl<'a, F, V, P, M, S> Options<'a, F, V, P, M, S> {
             → IsJoined (declaration_of self.now) words typed.now (option_map joined_view found)) }
     {
         if !opens {
+            return Ok(None);
+        }
+        // Only a word that begins with a dash has an option with its value in it.
+        if !begins_with_dash(typed) {
             return Ok(None);
         }
         match self.front(alloc, one_word(alloc, typed)?)? {
@@ -513,7 +518,7 @@ impl<'a, F, V, P, M, S> Options<'a, F, V, P, M, S> {
         let arguments = self.arguments(alloc, place)?;
         let joined = self.joined(alloc, is_open(front), typed)?;
         Ok(Completion {
-            spellings: self.spellings_for(alloc, can_come(self, front), typed)?,
+            spellings: self.spellings_for(alloc, front, typed)?,
             values: values_for(alloc, &word, self.positionals(), &arguments, &joined, typed)?,
             word,
             arguments,

@@ -14,7 +14,7 @@ returns g c = λ words front.
     let d = declaration_of c.args.self.now in
     let joined = c.in_ok-joined.ensures words (c.is_open.ensures d words front) in
     record {
-      spellings = c.in_ok-spellings_for.ensures words (c.can_come.ensures words front);
+      spellings = c.in_ok-spellings_for.ensures words front;
       values = c.in_ok-values_for.ensures ∙ values_given c.args.self.now c.args.typed.now _ _ c.deref.result.now c.in_ok-arguments.arguments.items _ _ _ c.positionals.ensures.view c.deref.ensures.value c.role-word.ensures joined.2;
       role = _;
       has_role = c.place-place.ensures.role words front;

@@ -1,14 +1,18 @@
-use Rattle.std.proofs.Common.{None, Some, subst}
+use Rattle.std.proofs.Common.{◌∙◌, None, Some, subst, sym}
+use Rattle.std.proofs.lemmas.Bool.{false≢true}
 use Rattle.lexopt_options.specs.Completions.{Opens}
 use Rattle.lexopt_options.specs.Declarations.{declaration_of}
 use Rattle.lexopt_options.specs.Roles.{joined_view}
 use Rattle.lexopt_options.specs.States.{IsFrontOf}
-use Rattle.lexopt_options.proofs.Completing.{joined_so_far, none_joined}
+use Rattle.lexopt_options.proofs.Completing.{joined_so_far, none_joined, plain_joined}
 use Rattle.lexopt_options.proofs.Fronts.{nowhere_joined}
 use Rattle.lexopt_options.proofs.options.Options.joined_option.Goals as goal
 
 pub returns-then-not-opens : goal.returns-then-not-opens
 returns-then-not-opens g c = λ words opens. none_joined (declaration_of c.args.self.now) words c.args.typed.now (subst (Opens (declaration_of c.args.self.now) words) c.if-not-opens.true opens)
+
+pub returns-then-not-begins_with_dash : goal.returns-then-not-begins_with_dash
+returns-then-not-begins_with_dash g c = λ words opens. plain_joined (declaration_of c.args.self.now) words c.args.typed.now (λ dashed. false≢true (sym c.if-not-begins_with_dash.true ∙ c.begins_with_dash.ensures.1 dashed))
 
 pub returns-in-Some : goal.returns-in-Some
 returns-in-Some g c =
