@@ -24,11 +24,8 @@ BOUNDS = {
 # By work: the bound of the geometric mean of its rows.
 MEANS = {"parsed": 1.0}
 
-# The bounds of the cost of completing a word, over that of reading the words before it: after many
-# words, and after a line of a few, where the declared names are most of it. A command gets its words
-# in a list of their own.
-COMPLETED, COMPLETED_FEW = 1.2, 1.8
-BY_COMMAND, BY_COMMAND_FEW = 1.4, 3.2
+# The bound of the cost of completing a word, over that of reading the words before it.
+COMPLETED = 1.2
 
 A_LINE = [
     b"-v",

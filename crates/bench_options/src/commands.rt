@@ -1,5 +1,6 @@
 //! A program with commands, whose options are those of the declaration.
 use crate::declared::{DECLARATION, Flag, Maybe, Value, Values, Word};
+use crate::seen::Seen;
 use lexopt_commands::{Call, Command, Commands, Runs, Step};
 use lexopt_options::{Answer, Declaration, Names, Options, OsString, Request, declare};
 use std::alloc::{AllocError, Global};
@@ -78,22 +79,34 @@ pub fn commands_of(alloc: Global, count: usize) -> Result<Vec<Command<'static, (
     Ok(commands)
 }
 
-// Whether the options of the declaration answer the call with the line for names of files.
-fn is_file_asked(alloc: Global, path: &str, call: Call<Infallible>) -> Result<bool, AllocError> {
+// Whether the options of the declaration answer the call with a line, which is counted, or with the
+// line for names of files.
+fn is_answered(
+    alloc: Global,
+    path: &str,
+    call: Call<Infallible>,
+    seen: &mut Seen,
+) -> Result<bool, AllocError> {
     let options = Options::new(&OWN).with_program(path);
     let (_general, answer) = call.answer(alloc, &options, 80)?;
     match answer {
+        Answer::Parsed(line) => {
+            seen.line(&line);
+            Ok(true)
+        }
         Answer::Text(text) => Ok(text.as_str() == "files\n"),
-        Answer::Parsed(_) | Answer::Refused(_) => Ok(false),
+        Answer::Refused(_) => Ok(false),
     }
 }
 
-/// Asks the last of these commands what can come where `f` is typed after its name and these words.
-/// Returns whether that is the name of a file.
-pub fn complete_command(
+/// Reads a line of the last of these commands: its name and these words. Or asks what can come where
+/// `f` is typed after them. Returns whether the line was read, or the name of a file can come.
+pub fn answer_command(
     alloc: Global,
     commands: &Commands<'_, (), Infallible>,
     words: &[&[u8]],
+    is_completed: bool,
+    seen: &mut Seen,
 ) -> Result<bool, AllocError> {
     let Some(last) = commands.commands().last() else {
         return Ok(false);
@@ -103,9 +116,13 @@ pub fn complete_command(
     for word in words {
         copies.push(OsString::from_bytes(alloc, word)?)?;
     }
-    let typed = OsString::from_text(alloc, "f")?;
-    match commands.answer_request(alloc, Request::Completion(copies, typed), 80)? {
-        Step::Command((), path, call) => is_file_asked(alloc, &path, call),
+    let request = if is_completed {
+        Request::Completion(copies, OsString::from_text(alloc, "f")?)
+    } else {
+        Request::Line(copies)
+    };
+    match commands.answer_request(alloc, request, 80)? {
+        Step::Command((), path, call) => is_answered(alloc, &path, call, seen),
         Step::Text(_) | Step::Refused(_) => Ok(false),
     }
 }

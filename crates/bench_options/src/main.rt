@@ -8,7 +8,7 @@
 //! - `parsed` copies the words, and reads the copies by ten declared options;
 //! - `completed` copies the words, and asks what can come after the copies where `f` is typed;
 //! - `commands10` and `commands50` do the same by a program of 10 or 50 commands, after the name of
-//!   the last of them;
+//!   the last of them, and `lines10` and `lines50` read the copies after that name;
 //! - `declare` declares these options, and copies nothing.
 //!
 //! Then it prints counts and a hash of what was read.
@@ -19,7 +19,7 @@ mod declared;
 mod seen;
 
 use anyhow::{Context, Result, bail};
-use commands::{GENERAL, commands_of, complete_command};
+use commands::{GENERAL, answer_command, commands_of};
 use declared::{DECLARATION, Flag, Maybe, Value, Values, Word};
 use lexopt_commands::Commands;
 use lexopt_options::{Declaration, Line, Options, OsString, Role};
@@ -35,7 +35,8 @@ enum Work {
     Copy,
     Parsed,
     Completed,
-    Commands(usize),
+    // A program with this many commands completes a word, or reads a line.
+    Commands(usize, bool),
     Declare,
 }
 
@@ -45,8 +46,10 @@ impl Work {
             "copy" => Some(Work::Copy),
             "parsed" => Some(Work::Parsed),
             "completed" => Some(Work::Completed),
-            "commands10" => Some(Work::Commands(10)),
-            "commands50" => Some(Work::Commands(50)),
+            "commands10" => Some(Work::Commands(10, true)),
+            "commands50" => Some(Work::Commands(50, true)),
+            "lines10" => Some(Work::Commands(10, false)),
+            "lines50" => Some(Work::Commands(50, false)),
             "declare" => Some(Work::Declare),
             _ => None,
         }
@@ -93,14 +96,14 @@ fn read_line(
     }
 }
 
-// Asks what can come after these words where `f` is typed. Returns whether a positional can.
+// Asks what can come after these words where this is typed. Returns whether a positional can.
 fn complete(
     alloc: Global,
     words: Vec<OsString>,
     options: &Options<'_, Flag, Value, Word, Maybe, Values>,
+    typed: &OsString,
 ) -> Result<bool, AllocError> {
-    let typed = OsString::from_text(alloc, "f")?;
-    let completion = options.complete(alloc, words, &typed)?;
+    let completion = options.complete(alloc, words, typed)?;
     Ok(matches!(completion.word, Some(Role::Argument)))
 }
 
@@ -112,6 +115,7 @@ fn do_once(
     declaration: &Declaration<'_, Flag, Value, Word, Maybe, Values>,
     options: &Options<'_, Flag, Value, Word, Maybe, Values>,
     commands: &Commands<'_, (), Infallible>,
+    typed: &OsString,
     seen: &mut Seen,
 ) -> Result<bool, AllocError> {
     match work {
@@ -120,8 +124,10 @@ fn do_once(
             Ok(true)
         }
         Work::Parsed => Ok(read_line(alloc, copies(alloc, words)?, options, seen)),
-        Work::Completed => complete(alloc, copies(alloc, words)?, options),
-        Work::Commands(_) => complete_command(alloc, commands, words),
+        Work::Completed => complete(alloc, copies(alloc, words)?, options, typed),
+        Work::Commands(_, is_completed) => {
+            answer_command(alloc, commands, words, is_completed, seen)
+        }
         Work::Declare => Ok(declare(declaration, seen).is_some()),
     }
 }
@@ -142,7 +148,7 @@ fn repeat(
     };
     let list = commands_of(
         alloc,
-        if let Work::Commands(count) = work {
+        if let Work::Commands(count, _) = work {
             count
         } else {
             0
@@ -151,8 +157,18 @@ fn repeat(
     let Ok(commands) = Commands::try_new(Options::new(&GENERAL), &list) else {
         return Ok(false);
     };
+    let typed = OsString::from_text(alloc, "f")?;
     for _ in 0..times {
-        if !do_once(alloc, work, &words, &declaration, &options, &commands, seen)? {
+        if !do_once(
+            alloc,
+            work,
+            &words,
+            &declaration,
+            &options,
+            &commands,
+            &typed,
+            seen,
+        )? {
             return Ok(false);
         }
         seen.stop_hashing();
