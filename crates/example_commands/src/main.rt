@@ -1,18 +1,8 @@
-//! Declared commands: `example_commands [OPTION].. COMMAND [ARGUMENT]..`. The command `remote` has
-//! a command of its own.
-//!
-//! It prints what it has read, quoted. In bash,
-//! `_EXAMPLE_COMMANDS_COMPLETE=bash_source example_commands` prints a script that completes its
-//! lines.
-//!
-//! The exit status is 0; 2 if the command line is refused; or that of `finish` if memory runs out
-//! or a line cannot be printed. Standard error then has the reason, unless nobody reads the lines.
+//! Declared commands, one of which has a command of its own. Prints what it has read, quoted.
 #![tactic(auto)]
 
-use lexopt_commands::{
-    Call, Command, Commands, Step, USAGE_ERROR, columns, declare_commands, finish,
-};
-use lexopt_options::{Answer, Declaration, Names, Options, Parsed, Quoted, declare};
+use lexopt_commands::{Call, Command, Commands, Step, columns, declare_commands, finish};
+use lexopt_options::{Answer, Declaration, Names, Options, Parsed, Quoted, USAGE_ERROR, declare};
 use std::convert::Infallible;
 use std::io;
 use std::process::ExitCode;
@@ -56,8 +46,7 @@ static REMOTE: Declaration<'static, Infallible, ()> = declare! {
     options: [help(Names::Both('h', "help"))],
 };
 
-static REMOTE_COMMANDS: &[Command<'static, ()>] =
-    declare_commands! { command((), "add", "add a remote") };
+static REMOTES: &[Command<'static, ()>] = declare_commands![command((), "add", "add a remote")];
 
 static REMOTE_ADD: Declaration<'static, Infallible, Infallible, ()> = declare! {
     program: "add",
@@ -71,8 +60,7 @@ fn work<P: Copy>(
     path: &str,
     call: Call<Infallible, ()>,
 ) -> io::Result<ExitCode> {
-    let options = options.with_program(path);
-    let (general, answer) = call.answer(rt.alloc(), &options, columns(rt))?;
+    let (general, answer) = call.answer(rt.alloc(), &options.with_program(path), columns(rt))?;
     let line = match answer {
         Answer::Parsed(line) => line,
         Answer::Text(text) => return rt.print(text).map(|()| ExitCode::SUCCESS),
@@ -82,15 +70,14 @@ fn work<P: Copy>(
         println!(rt; "in {}", Quoted::new(dir.as_bytes()))?;
     }
     rt.println(path)?;
-    for parsed in line {
-        let Parsed::Positional(_, word) = parsed;
+    for Parsed::Positional(_, word) in line {
         println!(rt; "{}", Quoted::new(word.as_bytes()))?;
     }
     Ok(ExitCode::SUCCESS)
 }
 
 fn remote(rt: &HostRuntime, path: &str, call: Call<Infallible, ()>) -> io::Result<ExitCode> {
-    let commands = Commands::new(Options::new(&REMOTE).with_program(path), REMOTE_COMMANDS);
+    let commands = Commands::new(Options::new(&REMOTE).with_program(path), REMOTES);
     match commands.answer_call(rt.alloc(), call, columns(rt))? {
         Step::Command((), path, call) => work(rt, Options::new(&REMOTE_ADD), &path, call),
         Step::Text(text) => rt.print(text).map(|()| ExitCode::SUCCESS),
