@@ -17,21 +17,20 @@ use Rattle.lexopt_options_spec.specs.Declaration.{Declaration, index_of, is_soun
 use Rattle.lexopt_options_spec.specs.Leading.{IsOfOption, IsSplit, MeansLeading}
 use Rattle.lexopt_options_spec.specs.Legal.{IsWithin, Parsed, are_accepted, most, occurs, positional_count}
 use Rattle.lexopt_options_spec.specs.States.{is_further, state_at_end}
-use Rattle.lexopt_options_spec.specs.Stops.{Mistake, Stops, missing_value, not_declared, unknown_option}
+use Rattle.lexopt_options_spec.specs.Stops.{Mistake, Stops, missing_value, not_declared, unexpected_value, unknown_option, value_of_flag}
 use Rattle.lexopt_options_spec.proofs.FirstWords.{further_never, without_word, word_follows}
 use Rattle.lexopt_options_spec.proofs.LeadingOptions.{leading_front, leading_whole}
 use Rattle.lexopt_options_spec.proofs.LeadingStops.{option_stops}
 use Rattle.lexopt_options_spec.proofs.OneLeading.{one_leading}
 use Rattle.lexopt_options_spec.proofs.Reached.{surplus_nowhere, undeclared_nowhere, unexpected_nowhere, value_stops, values_nowhere, values_stop}
 use Rattle.lexopt_options.specs.Begun.{AnyComesFirst, IsBegun, NoneComesFirst}
-use Rattle.lexopt_options.specs.Reading.{AllSeen, StopsWithin, UndeclaredNext}
+use Rattle.lexopt_options.specs.Reading.{AllSeen, UndeclaredNext}
 use Rattle.lexopt_options.specs.States.{IsAfterName, IsFront, IsFrontOf, state_view}
 use Rattle.lexopt_options.specs.declared.front.Begun.TheVariants as begun
 use Rattle.lexopt_options.specs.declared.front.AfterName.TheVariants as after
 use Rattle.lexopt_options.specs.declared.front.Front.{Front}
 use Rattle.lexopt_options.specs.declared.front.State.{State}
 use Rattle.lexopt_options.specs.declared.front.State.TheVariants as state
-use Rattle.lexopt_options.specs.declared.mistake.Mistake as rust
 use Rattle.lexopt_options.proofs.Fronts.{HasReached, counted, front_at_end, front_lacking}
 use Rattle.lexopt_options.proofs.LeadingRead.{nothing_pending}
 use Rattle.lexopt_options.proofs.ReadNext.{kind_of_index}
@@ -117,11 +116,10 @@ undeclared_begun d u v words own seen accepted unasked last going (Some c) sound
 undeclared_begun d u v words own seen accepted unasked last going None sound has next =
     stops_begun words None sound has (undeclared_nowhere d words has.l going u v (table.long next.0) has.at next.2 next.3) (unknown_option (table.long next.0) v.tail) tt (not_declared (table.long next.0) v next.2 next.3)
 
-pub mistake_begun : (d : Declaration) (u : UnreadLine) (words own : List (List ℕ)) (seen : List ℕ) (accepted unasked : Bool) (last : Option (ℕ × List ℕ)) (going : Option ℕ) (mistake : rust.Mistake) → is_sound d.options ≡ true
-    → HasReached d (start d.short_equals words) u own seen accepted unasked last going → StopsWithin d None 0 u mistake → IsBegun d words (begun.Front None false) u
-mistake_begun d u words own seen accepted unasked last going mistake sound has stops =
-    let early = stops.of_option refl in
-    stops_begun words None sound has (unexpected_nowhere d words has.l going u early.4 early.2 early.3 has.at early.5) stops.why early.0 (early.1 has.l)
+pub unexpected_begun : (d : Declaration) (u v : UnreadLine) (words own : List (List ℕ)) (seen : List ℕ) (accepted unasked : Bool) (last : Option (ℕ × List ℕ)) (going : Option ℕ) (option value : List ℕ) → is_sound d.options ≡ true
+    → HasReached d (start d.short_equals words) u own seen accepted unasked last going → Next u (steps.unexpected option value) v → IsBegun d words (begun.Front None false) v
+unexpected_begun d u v words own seen accepted unasked last going option value sound has next =
+    stops_begun words None sound has (unexpected_nowhere d words has.l going u v option value has.at next) (unexpected_value option value) tt (value_of_flag option value v next)
 
 -- an option lacks its value
 lacking_stops : (d : Declaration) (u v w : UnreadLine) (name : Name) (index : ℕ) (lacks : State) → is_sound d.options ≡ true → Next u (option_reply name) v → index_of d.options name ≡ Some index → IsAfterName d index v (after.Lacks lacks) w

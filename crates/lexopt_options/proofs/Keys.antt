@@ -8,8 +8,7 @@ use Rattle.std.proofs.lemmas.Option.{slice_get-map, slice_get-get_or}
 use Rattle.lexopt_line_spec.specs.Table.{Name, flag}
 use Rattle.lexopt_options_spec.specs.Declaration as spec
 use Rattle.lexopt_options_spec.specs.Declaration.{has_name, index_of}
-use Rattle.lexopt_options_spec.specs.Asking.{all_but_last, asked_at, asked_by, first_asked, or_asked, parsed_before}
-use Rattle.lexopt_options_spec.specs.Stops as stops
+use Rattle.lexopt_options_spec.specs.Asking.{all_but_last, asked_at, asked_by, first_asked, or_asked}
 use Rattle.lexopt_options_spec.specs.Legal as legal
 use Rattle.lexopt_declaration.specs.Models.{asked_of, kind_of, option_view}
 use Rattle.lexopt_declaration.specs.declared.declaration.Declared.{Declared}
@@ -101,23 +100,13 @@ parsed_more options [] (x ∷ parsed) s own are is = absurd are
 parsed_more options (x ∷ l) [] s own are is = absurd are
 parsed_more options (x ∷ l) (y ∷ parsed) s own are is = (are.0, parsed_more options l parsed s own are.1 is)
 
-none_of_all : (options : List spec.Declared) (s : legal.Parsed) (l : List legal.Parsed) → first_asked options (s ∷ l) ≡ None → first_asked options (all_but_last (s ∷ l)) ≡ None
-none_of_all options s [] none = refl
-none_of_all options s (t ∷ l) none =
+-- if nothing asks for anything, nothing before the last does
+pub none_before : (options : List spec.Declared) (l : List legal.Parsed) → first_asked options l ≡ None → first_asked options (all_but_last l) ≡ None
+none_before options [] none = refl
+none_before options (s ∷ []) none = refl
+none_before options (s ∷ t ∷ l) none =
     let both = none_both (asked_by options s) (first_asked options (t ∷ l)) none in
-    ap (λ a. or_asked a (first_asked options (all_but_last (t ∷ l)))) both.0 ∙ none_of_all options t l both.1
-
--- if nothing asks for anything, nothing before a mistake does
-pub none_before : (options : List spec.Declared) (why : stops.Mistake) (l : List legal.Parsed) → first_asked options l ≡ None → first_asked options (parsed_before why l) ≡ None
-none_before options (stops.unexpected_value option value) [] none = refl
-none_before options (stops.unexpected_value option value) (s ∷ l) none = none_of_all options s l none
-none_before options (stops.unknown_option name left) l none = none
-none_before options (stops.missing_value index option) l none = none
-none_before options (stops.invalid_value index value) l none = none
-none_before options (stops.invalid_argument index word) l none = none
-none_before options (stops.unexpected_argument word) l none = none
-none_before options (stops.missing_argument count) l none = none
-none_before options (stops.missing_option index) l none = none
+    ap (λ a. or_asked a (first_asked options (all_but_last (t ∷ l)))) both.0 ∙ none_before options (t ∷ l) both.1
 
 pub parsed_length : {F V P M S : Type 0} (options : List (Declared F V M S)) (l : List legal.Parsed) (xs : List (Parsed F V P M S)) → AreParsedAs options l xs → length l ≡ length xs
 parsed_length options [] [] are = refl

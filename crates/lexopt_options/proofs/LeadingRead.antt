@@ -8,7 +8,7 @@ use Rattle.lexopt_options_spec.proofs.LeadingOptions.{word_read}
 use Rattle.lexopt_options_spec.specs.Asking.{asked_by}
 use Rattle.lexopt_options_spec.specs.Declaration as spec
 use Rattle.lexopt_options_spec.specs.Legal as legal
-use Rattle.lexopt_options_spec.specs.Legal.{positional_count}
+use Rattle.lexopt_options_spec.specs.Legal.{IsWithin, positional_count}
 use Rattle.lexopt_options_spec.proofs.Lists.{count_append}
 use Rattle.lexopt_options_spec.proofs.LeadingStops.{leading_later, nothing_leads}
 use Rattle.lexopt_options_spec.proofs.OneLeading.{one_leading}
@@ -27,6 +27,10 @@ pub asked_alone : (options : List spec.Declared) (l : List legal.Parsed) (s : le
 asked_alone options l (legal.option i value) a alone asks = count_append l (legal.option i value ∷ []) ∙ omega (arith, alone)
 asked_alone options l (legal.several i values) a alone asks = count_append l (legal.several i values ∷ []) ∙ omega (arith, alone)
 asked_alone options l (legal.positional word) a alone asks = absurd (let e : None ≡ Some a = asks in cc)
+
+-- no positional is read of leading options
+pub none_counted : (n : ℕ) → IsWithin n (Some 0) → n ≡ 0
+none_counted n within = omega (arith, within)
 
 pub no_length : {X : Type 0} (l : List X) → length l ≡ 0 → l ≡ []
 no_length [] is = refl

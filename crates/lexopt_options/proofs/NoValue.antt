@@ -60,5 +60,6 @@ value_missing d k u v name index option mistake sound step found k_is (inr r) to
   why = stops.missing_value index (string_bytes option);
   told = told;
   of_option = tt;
-  stops = λ l. stops.no_value name index (string_bytes option) r.0 v r.1 step found (subst (λ (x : spec.Kind). IsDue x r.0) (k_is ∙ kind_of_index d.options name index sound found) r.2) r.3;
+  kept = λ l. refl;
+  stops = λ l line. stops.no_value name index (string_bytes option) r.0 v r.1 step found (subst (λ (x : spec.Kind). IsDue x r.0) (k_is ∙ kind_of_index d.options name index sound found) r.2) r.3;
 }

@@ -7,14 +7,15 @@ use Rattle.lexopt_base.specs.Found.{found_as}
 use Rattle.lexopt_base.specs.Replies.{RepliesWith}
 use Rattle.lexopt_base.specs.declared.parser.Found.{Found}
 use Rattle.lexopt_base.specs.declared.parser.Found.TheVariants as found
-use Rattle.lexopt_options_spec.specs.Asking.{asked_by, first_asked}
+use Rattle.lexopt_options_spec.specs.Asking.{asked_by, first_asked, parsed_before}
+use Rattle.lexopt_options_spec.specs.Leading.{IsOfOption}
 use Rattle.lexopt_options_spec.specs.Legal as legal
 use Rattle.lexopt_options_spec.proofs.Listed.{accepted_append}
 use Rattle.lexopt_options_spec.proofs.Fronts.{nothing_read}
-use Rattle.lexopt_options_spec.specs.Legal.{are_accepted, counts, is_required, occurs, positional_count, refused_value}
-use Rattle.lexopt_options_spec.specs.Stops.{ReadsUpTo}
+use Rattle.lexopt_options_spec.specs.Legal.{IsWithin, are_accepted, counts, is_required, occurs, positional_count, refused_value}
+use Rattle.lexopt_options_spec.specs.Stops.{ReadsUpTo, Stops}
 use Rattle.lexopt_declaration.specs.declared.declaration.Declared.{Declared}
-use Rattle.lexopt_line_spec.specs.Readings.{option_reply}
+use Rattle.lexopt_line_spec.specs.Readings.{option_reply, start}
 use Rattle.lexopt_line_spec.specs.Table.{Name}
 use Rattle.lexopt_options_spec.specs.Declaration.{has, index_of}
 use Rattle.lexopt_items.specs.Items.{ReadsValues, kind_view}
@@ -29,7 +30,7 @@ use Rattle.lexopt_options.specs.Keys.{AllFirst, AreParsedAs, HasKey, IsParsedAs,
 use Rattle.lexopt_options_spec.specs.Stops as stops
 use Rattle.lexopt_options.specs.declared.mistake.Mistake.{Mistake}
 use Rattle.lexopt_options.specs.Mistakes.{IsMistake}
-use Rattle.lexopt_options.specs.Reading.{StopsAtOption, StopsByKey, AreSeen, IsReadByKey, ReadsParsed, noted, parsed_with}
+use Rattle.lexopt_options.specs.Reading.{HasRead, HasStopped, StopsAtOption, AreSeen, IsReadByKey, ReadsParsed, noted, parsed_with}
 use Rattle.lexopt_options.specs.declared.parsed.Parsed.TheVariants as variant
 use Rattle.lexopt_declaration.specs.declared.declaration.Positional.{Positional}
 use Rattle.lexopt_options_spec.specs.Completion.{IsOption}
@@ -38,26 +39,16 @@ use Rattle.std.proofs.lemmas.Bool.{eq-eqb, eqb-true, false≢true}
 use Rattle.std.proofs.Math.Bool.{or-false}
 use Rattle.lexopt_items.specs.declared.values.Values.TheVariants.{AtMostOne, All}
 use Rattle.lexopt_options.proofs.Keys.{asked_more, parsed_length, parsed_more}
-use Rattle.lexopt_options.proofs.ReadNext.{count_more, count_small, no_count, one_more, option_parsed}
+use Rattle.lexopt_options.proofs.ReadNext.{count_more, count_small, no_count, none_within, one_more, option_parsed}
 
--- the line u was read up to v, and this was read, by keys; nothing was asked for
-pub record HasRead {F V P M S : Type 0} (o : Options F V P M S) (u v : UnreadLine) (count : ℕ) (seen : List ℕ) (parsed : List (Parsed F V P M S)) : Type 0 where
-  pub l : List legal.Parsed
-  pub read : ReadsUpTo (declaration_of o) u l v
-  pub none : first_asked (declaration_of o).options l ≡ None
-  pub are : AreParsedAs (options_of o) l parsed
-  pub counted : count ≡ positional_count l
-  pub are_seen : AreSeen (declaration_of o).options l seen
-  pub firsts : AllFirst (positionals_of o) (positional_keys parsed)
-  pub accepted : are_accepted (declaration_of o).options l ≡ true
-
-pub at_start : {F V P M S : Type 0} (o : Options F V P M S) (u : UnreadLine) {parsed : List (Parsed F V P M S)} {seen : List ℕ} → IsLine u → parsed ≡ [] → seen ≡ [] → HasRead o u u 0 seen parsed
-at_start {F} {V} {P} {M} {S} o u {parsed} {seen} line none_parsed none_seen = subst (λ (xs : List (Parsed F V P M S)). HasRead o u u 0 seen xs) (sym none_parsed) (subst (λ (l : List ℕ). HasRead o u u 0 l []) (sym none_seen) (record {
+pub at_start : {F V P M S : Type 0} (o : Options F V P M S) (limit : Option ℕ) (u : UnreadLine) {parsed : List (Parsed F V P M S)} {seen : List ℕ} → IsLine u → parsed ≡ [] → seen ≡ [] → HasRead o limit u u 0 seen parsed
+at_start {F} {V} {P} {M} {S} o limit u {parsed} {seen} line none_parsed none_seen = subst (λ (xs : List (Parsed F V P M S)). HasRead o limit u u 0 seen xs) (sym none_parsed) (subst (λ (l : List ℕ). HasRead o limit u u 0 l []) (sym none_seen) (record {
   l = [];
   read = nothing_read (declaration_of o) u line;
   none = refl;
   are = tt;
   counted = refl;
+  limited = none_within limit 0 (omega arith);
   are_seen = λ i needed. refl;
   firsts = tt;
   accepted = refl;
@@ -135,30 +126,32 @@ keys_count options (s ∷ l) (x ∷ xs) are = one x are.0 (keys_count options l 
 pub one_unrefused : (options : List spec.Declared) (s : legal.Parsed) → refused_value options s ≡ None → are_accepted options (s ∷ []) ≡ true
 one_unrefused options s none = ap (λ (x : Option (List ℕ)). is_none x && true) none
 
-pub has_option : {F V P M S : Type 0} (o : Options F V P M S) (u v w : UnreadLine) (count index : ℕ) (seen seen_now : List ℕ) (parsed more : List (Parsed F V P M S)) (s : legal.Parsed) (own : Parsed F V P M S)
-    → HasRead o u v count seen parsed → ReadsParsed (declaration_of o) count v s w → asked_by (declaration_of o).options s ≡ None → IsParsedAs (options_of o) s own → counts s ≡ 0 → IsOption index s → refused_value (declaration_of o).options s ≡ None
-    → seen_now ≡ noted (is_required (declaration_of o).options index) index seen → more ≡ parsed ++ own ∷ [] → HasRead o u w count seen_now more
-has_option o u v w count index seen seen_now parsed more s own had reads none is counts_is option unrefused seen_is more_is = record {
+pub has_option : {F V P M S : Type 0} (o : Options F V P M S) (limit : Option ℕ) (u v w : UnreadLine) (count index : ℕ) (seen seen_now : List ℕ) (parsed more : List (Parsed F V P M S)) (s : legal.Parsed) (own : Parsed F V P M S)
+    → HasRead o limit u v count seen parsed → ReadsParsed (declaration_of o) count v s w → asked_by (declaration_of o).options s ≡ None → IsParsedAs (options_of o) s own → counts s ≡ 0 → IsOption index s → refused_value (declaration_of o).options s ≡ None
+    → seen_now ≡ noted (is_required (declaration_of o).options index) index seen → more ≡ parsed ++ own ∷ [] → HasRead o limit u w count seen_now more
+has_option o limit u v w count index seen seen_now parsed more s own had reads none is counts_is option unrefused seen_is more_is = record {
   l = had.l ++ s ∷ [];
   read = one_more (declaration_of o) u v w had.l count s had.read had.counted reads;
   none = asked_more (declaration_of o).options had.l s had.none none;
   are = subst (AreParsedAs (options_of o) (had.l ++ s ∷ [])) (sym more_is) (parsed_more (options_of o) had.l parsed s own had.are is);
   counted = sym (add-zero count) ∙ count_more had.l count 0 s had.counted counts_is;
+  limited = had.limited;
   are_seen = subst (AreSeen (declaration_of o).options (had.l ++ s ∷ [])) (sym seen_is) (seen_more (declaration_of o).options had.l seen index s option had.are_seen);
   firsts = subst (AllFirst (positionals_of o)) (sym (ap positional_keys more_is ∙ keys_append parsed (own ∷ [])))
       (firsts_append (positionals_of o) (positional_keys parsed) (positional_keys (own ∷ [])) had.firsts (subst (AllFirst (positionals_of o)) (sym (no_key (options_of o) index s own is option)) tt));
   accepted = accepted_append (declaration_of o).options had.l (s ∷ []) had.accepted (one_unrefused (declaration_of o).options s unrefused);
 }
 
-pub has_positional : {F V P M S : Type 0} (o : Options F V P M S) (u v w : UnreadLine) (count : ℕ) (seen : List ℕ) (parsed more : List (Parsed F V P M S)) (word : List ℕ) (key : P)
-    → HasRead o u v count seen parsed → ReadsParsed (declaration_of o) count v (legal.positional word) w → HasKey (positionals_of o) 0 key → more ≡ parsed ++ variant.Positional key word ∷ []
-    → HasRead o u w (count + 1) seen more
-has_positional o u v w count seen parsed more word key had reads first more_is = record {
+pub has_positional : {F V P M S : Type 0} (o : Options F V P M S) (limit : Option ℕ) (u v w : UnreadLine) (count : ℕ) (seen : List ℕ) (parsed more : List (Parsed F V P M S)) (word : List ℕ) (key : P)
+    → HasRead o limit u v count seen parsed → IsWithin (count + 1) limit → ReadsParsed (declaration_of o) count v (legal.positional word) w → HasKey (positionals_of o) 0 key → more ≡ parsed ++ variant.Positional key word ∷ []
+    → HasRead o limit u w (count + 1) seen more
+has_positional o limit u v w count seen parsed more word key had room reads first more_is = record {
   l = had.l ++ legal.positional word ∷ [];
   read = one_more (declaration_of o) u v w had.l count (legal.positional word) had.read had.counted reads;
   none = asked_more (declaration_of o).options had.l (legal.positional word) had.none refl;
   are = subst (AreParsedAs (options_of o) (had.l ++ legal.positional word ∷ [])) (sym more_is) (parsed_more (options_of o) had.l parsed (legal.positional word) (variant.Positional key word) had.are refl);
   counted = count_more had.l count 1 (legal.positional word) had.counted refl;
+  limited = room;
   are_seen = seen_same (declaration_of o).options had.l seen word had.are_seen;
   firsts = subst (AllFirst (positionals_of o)) (sym (ap positional_keys more_is ∙ keys_append parsed (variant.Positional key word ∷ [])))
       (firsts_append (positionals_of o) (positional_keys parsed) (key ∷ []) had.firsts (first, tt));
@@ -184,22 +177,44 @@ read_so o count u v w name k index values t k_is step found reads tells unrefuse
 pub refused_so : {F V P M S : Type 0} (o : Options F V P M S) (count : ℕ) (u v w : UnreadLine) (name : Name) (k : Kind) (index : ℕ) (values : Values) (m : Mistake) (value : List ℕ)
     → kind_view k ≡ kind_at (declaration_of o).options index → Next u (option_reply name) v → index_of (declaration_of o).options name ≡ Some index → ReadsValues k v values w
     → (refused_value (declaration_of o).options (parsed_with index values) ≡ Some value) × IsMistake (declaration_of o) m (stops.invalid_value index value)
-    → StopsByKey (declaration_of o) count u m
+    → StopsAtOption (declaration_of o) u m
 refused_so o count u v w name k index values m value k_is step found reads refused = record {
   why = stops.invalid_value index value;
   told = refused.1;
   of_option = tt;
-  stops = λ l line counted. stops.not_accepted (parsed_with index values) index value w
+  kept = λ l. refl;
+  stops = λ l line. stops.not_accepted (parsed_with index values) index value w
       (one_more (declaration_of o) u u w [] 0 (parsed_with index values) (nothing_read (declaration_of o) u line) refl (option_parsed (declaration_of o) 0 u v w name k index values o.sound k_is step found reads))
       (option_is index values) refused.0;
 }
 
-pub by_key : (d : spec.Declaration) (count : ℕ) (u : UnreadLine) (m : Mistake) → StopsAtOption d u m → StopsByKey d count u m
-by_key d count u m by = record { why = by.why; told = by.told; of_option = by.of_option; stops = λ l line counted. by.stops l }
-
 -- there are at most as many positionals as things that are read
-pub count_within : {F V P M S : Type 0} (o : Options F V P M S) (u v : UnreadLine) (count : ℕ) (seen : List ℕ) (parsed : List (Parsed F V P M S)) → HasRead o u v count seen parsed → count ≤ length parsed
-count_within o u v count seen parsed had = omega (arith, had.counted, count_small had.l, parsed_length (options_of o) had.l parsed had.are)
+pub count_within : {F V P M S : Type 0} (o : Options F V P M S) (limit : Option ℕ) (u v : UnreadLine) (count : ℕ) (seen : List ℕ) (parsed : List (Parsed F V P M S)) → HasRead o limit u v count seen parsed → count ≤ length parsed
+count_within o limit u v count seen parsed had = omega (arith, had.counted, count_small had.l, parsed_length (options_of o) had.l parsed had.are)
+
+pub starts : {F V P M S : Type 0} {o : Options F V P M S} {limit : Option ℕ} {u v w : UnreadLine} {count : ℕ} {seen : List ℕ} {parsed : List (Parsed F V P M S)} → u ≡ w → HasRead o limit u v count seen parsed → HasRead o limit w v count seen parsed
+starts {F} {V} {P} {M} {S} {o} {limit} {u} {v} {w} {count} {seen} {parsed} is had = subst (λ (x : UnreadLine). HasRead o limit x v count seen parsed) is had
+
+-- all of what was read is before a mistake
+pub stopped_with : {F V P M S : Type 0} (o : Options F V P M S) (limit : Option ℕ) (words : List (List ℕ)) (v : UnreadLine) (count : ℕ) (seen : List ℕ) (parsed : List (Parsed F V P M S)) (m : Mistake)
+    → (had : HasRead o limit (start (declaration_of o).short_equals words) v count seen parsed) → (why : stops.Mistake) → IsMistake (declaration_of o) m why → ((l : List legal.Parsed) → parsed_before why l ≡ l)
+    → Stops (declaration_of o) had.l v why → HasStopped o words parsed m
+stopped_with o limit words v count seen parsed m had why told kept stops = record {
+  why = why;
+  told = told;
+  read = had.l;
+  stops = record { there = v; read = had.read; stops = stops; accepted = had.accepted };
+  own = subst (λ (l : List legal.Parsed). first_asked (declaration_of o).options l ≡ None) (sym (kept had.l)) had.none;
+  before = subst (λ (l : List legal.Parsed). AreParsedAs (options_of o) l parsed) (sym (kept had.l)) had.are;
+  firsts = had.firsts;
+}
+
+pub stopped_there : {F V P M S : Type 0} (o : Options F V P M S) (limit : Option ℕ) (words : List (List ℕ)) (v : UnreadLine) (count : ℕ) (seen : List ℕ) (parsed : List (Parsed F V P M S)) (m : Mistake)
+    → HasRead o limit (start (declaration_of o).short_equals words) v count seen parsed → StopsAtOption (declaration_of o) v m
+    → (stopped : HasStopped o words parsed m) × IsOfOption stopped.why × IsWithin (positional_count stopped.read) limit
+unfolding stopped_with
+stopped_there o limit words v count seen parsed m had by =
+    (stopped_with o limit words v count seen parsed m had by.why by.told by.kept (by.stops had.l had.read.line), by.of_option, subst (λ n. IsWithin n limit) had.counted had.limited)
 
 -- ---- where an option has an unexpected value, nothing else is read
 

@@ -180,7 +180,7 @@ undeclared_stops d u v None next = (spec.long next.0, λ l. not_declared (spec.l
 stops_there : (d : Declaration) (u v : UnreadLine) (short : Option ℕ) (mistake : Mistake) (next : UndeclaredNext d u short v) → IsMistake d mistake (unknown_option (undeclared_stops d u v short next).0 v.tail) → StopsAtOption d u mistake
 stops_there d u v short mistake next told =
     let stops = undeclared_stops d u v short next in
-    record { why = unknown_option stops.0 v.tail; told = told; of_option = tt; stops = stops.1 }
+    record { why = unknown_option stops.0 v.tail; told = told; of_option = tt; kept = λ l. refl; stops = λ l line. stops.1 l }
 
 pub stops_at_short : {E : Type 0} (d : Declaration) (v : UnreadLine) (c : ℕ) (r : Result Mistake E) → ((u : UnreadLine) → Next u (steps.short c) v → IfOk r (λ m. IsMistake d m (unknown_option (spec.short c) v.tail)))
     → IfOk r (λ m. (u : UnreadLine) → UndeclaredNext d u (Some c) v → StopsAtOption d u m)
@@ -203,8 +203,13 @@ pub more_within : (n : ℕ) (limit : Option ℕ) → limit ≢ Some n → IsWith
 more_within n None room within = tt
 more_within n (Some m) room within = let other : m ≢ n = λ same. room (ap (λ x. Some x) same) in omega arith
 
+-- no positional is within each limit
+pub none_within : (limit : Option ℕ) (n : ℕ) → n ≤ 0 → IsWithin n limit
+none_within None n none = tt
+none_within (Some m) n none = omega (arith, none)
+
 -- a positional, if one more is allowed
-pub positional_parsed : (d : Declaration) (count : ℕ) (u v : UnreadLine) (word : List ℕ) → most d.positionals ≢ Some count → Next u (steps.positional word) v
+pub positional_parsed : (d : Declaration) (count : ℕ) (u v : UnreadLine) (word : List ℕ) → IsWithin (count + 1) (most d.positionals) → Next u (steps.positional word) v
     → ReadsParsed d count u (legal.positional word) v
 positional_parsed d count u v word room step = record {
   item = spec.positional word;
@@ -212,7 +217,7 @@ positional_parsed d count u v word room step = record {
   shorter = (positional_read (table d.options) u v word step).1;
   parsed = refl;
   line = λ line. step_line calls.next u (steps.positional word) v line step;
-  within = λ within. more_within count (most d.positionals) room within;
+  within = λ within. room;
 }
 
 -- ---- what was read before
@@ -238,12 +243,7 @@ count_small (legal.option i v ∷ l) = let rest = count_small l in omega arith
 count_small (legal.several i v ∷ l) = let rest = count_small l in omega arith
 count_small (legal.positional w ∷ l) = let rest = count_small l in omega arith
 
--- one more positional, by the limit
-pub by_room : (d : Declaration) (limit : Option ℕ) (count : ℕ) (u v : UnreadLine) (word : List ℕ) → limit ≡ most d.positionals → Next u (steps.positional word) v × (limit ≢ Some count)
-    → ReadsParsed d count u (legal.positional word) v
-by_room d limit count u v word is next = positional_parsed d count u v word (λ full. next.1 (is ∙ full)) next.0
-
 -- if one more positional is allowed, one is declared
-pub has_room : (ps : List Positional) (limit : Option ℕ) (count : ℕ) → limit ≡ most ps → IsWithin count (most ps) → limit ≢ Some count → 1 ≤ length ps
-has_room [] limit count is within room = absurd (room (is ∙ ap (λ n. Some n) (omega (arith, within))))
-has_room (p ∷ ps) limit count is within room = omega arith
+pub has_room : (ps : List Positional) (count : ℕ) → IsWithin (count + 1) (most ps) → 1 ≤ length ps
+has_room [] count room = absurd (omega (arith, room))
+has_room (p ∷ ps) count room = omega arith

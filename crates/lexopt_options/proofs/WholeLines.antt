@@ -12,7 +12,7 @@ use Rattle.lexopt_options_spec.specs.Legal.{Means, MeansFront, are_accepted, pos
 use Rattle.lexopt_options_spec.specs.Places.{AreTaken, IsNotTaken, least}
 use Rattle.lexopt_options_spec.proofs.Taken.{words_count}
 use Rattle.lexopt_options_spec.specs.Stops as stops
-use Rattle.lexopt_options_spec.specs.Asking.{all_but_last, first_asked, parsed_before}
+use Rattle.lexopt_options_spec.specs.Asking.{all_but_last, first_asked}
 use Rattle.lexopt_options_spec.specs.Stops.{ReadsUpTo, Stops, StopsAt, required_placeholder}
 use Rattle.lexopt_options_spec.proofs.Fronts.{front_later, front_parsed, nothing_parsed, one_front}
 use Rattle.std.specs.Borrow.{Bor}
@@ -27,9 +27,9 @@ use Rattle.lexopt_options.specs.Declarations.{declaration_of}
 use Rattle.lexopt_options.specs.declared.parsed.Parsed.{Parsed}
 use Rattle.lexopt_options.specs.Keys.{AreParsedAs, asked_view}
 use Rattle.lexopt_options.proofs.Keys.{asked_here}
-use Rattle.lexopt_options.specs.Lines.{IsLineOf, IsLineRead, before_mistake}
+use Rattle.lexopt_options.specs.Lines.{IsLineOf, IsLineRead}
 use Rattle.lexopt_options.specs.Mistakes.{AreNames, IsMistake}
-use Rattle.lexopt_options.specs.Reading.{AllSeen, AreSeen, IsFirstUnseen}
+use Rattle.lexopt_options.specs.Reading.{AreSeen, IsFirstUnseen, IsRight, IsWrong}
 
 -- words that are read to the end of the line mean what was read
 front : (d : Declaration) (words : List (List ℕ)) (l : List legal.Parsed) (v w : UnreadLine) → is_sound d.options ≡ true → ReadsUpTo d (start d.short_equals words) l v → Next v steps.end w
@@ -43,13 +43,6 @@ front d words l v w sound read ends =
 counted_so : (d : Declaration) (l : List legal.Parsed) (words : List (List ℕ)) → positional_words l ≡ words → positional_count l ≡ length words
 counted_so d l words is = sym (words_count l) ∙ ap length is
 
--- at the end of a line with these positionals and these required options, nothing is missing, and
--- each word is accepted
-pub record IsRight (d : Declaration) (words : List (List ℕ)) (seen : List ℕ) : Type 0 where
-  pub enough : least d.positionals ≤ length words
-  pub taken : AreTaken d.positionals words
-  pub all : AllSeen d.options seen
-
 pub line_parsed : (d : Declaration) (words : List (List ℕ)) (l : List legal.Parsed) (v w : UnreadLine) (own : List (List ℕ)) (seen : List ℕ) → is_sound d.options ≡ true
     → ReadsUpTo d (start d.short_equals words) l v → positional_words l ≡ own → AreSeen d.options l seen → Next v steps.end w → IsRight d own seen → are_accepted d.options l ≡ true → Means d words l
 line_parsed d words l v w own seen sound read words_are are_seen ends right accepted = record {
@@ -60,25 +53,7 @@ line_parsed d words l v w own seen sound read words_are are_seen ends right acce
   taken = subst (AreTaken d.positionals) (sym words_are) right.taken;
 }
 
-pub line_stopped : (d : Declaration) (words : List (List ℕ)) (l : List legal.Parsed) (u v : UnreadLine) (count : ℕ) (why : stops.Mistake) → u ≡ start d.short_equals words → ReadsUpTo d u l v
-    → count ≡ positional_count l → ((m : List legal.Parsed) → count ≡ positional_count m → Stops d m v why) → are_accepted d.options l ≡ true → StopsAt d words l why
-line_stopped d words l u v count why is read counted stops accepted = record {
-  there = v;
-  read = subst (λ (x : UnreadLine). ReadsUpTo d x l v) is read;
-  stops = stops l counted;
-  accepted = accepted;
-}
-
 -- ---- what is wrong at the end
-
--- at the end of a line with these positionals and these required options, something is missing or a
--- word is not accepted, which is this mistake
-pub record IsWrong (d : Declaration) (words : List (List ℕ)) (seen : List ℕ) (mistake : Mistake)
-    : Type 0 where
-  pub why : stops.Mistake
-  pub told : IsMistake d mistake why
-  pub stops : (u v : UnreadLine) (l : List legal.Parsed) → Next u steps.end v
-      → positional_words l ≡ words → AreSeen d.options l seen → Stops d l u why
 
 -- a positional is missing
 pub lacks_argument : (d : Declaration) (words : List (List ℕ)) (seen : List ℕ) (placeholder : Bor (List ℕ)) → length words < least d.positionals → placeholder.now ≡ required_placeholder d.positionals (length words)
@@ -86,6 +61,7 @@ pub lacks_argument : (d : Declaration) (words : List (List ℕ)) (seen : List �
 lacks_argument d words seen placeholder few is = record {
   why = stops.missing_argument (length words);
   told = (length words, refl, is);
+  kept = λ l. refl;
   stops = λ u v l step words_are are_seen.
       let counted = counted_so d l words words_are in
       subst (λ n. Stops d l u (stops.missing_argument n)) counted (stops.too_few v step (subst (λ n. n < least d.positionals) (sym counted) few));
@@ -97,6 +73,7 @@ pub refuses_word : (d : Declaration) (words : List (List ℕ)) (seen : List ℕ)
 refuses_word d words seen m index word enough unfit told = record {
   why = stops.invalid_argument index word;
   told = told;
+  kept = λ l. refl;
   stops = λ u v l step words_are are_seen.
       stops.not_taken index word v step (subst (λ n. least d.positionals ≤ n) (sym (counted_so d l words words_are)) enough)
       (subst (λ ws. IsNotTaken d.positionals ws index word) (sym words_are) unfit);
@@ -108,6 +85,7 @@ pub lacks_option : (d : Declaration) (words : List (List ℕ)) (seen : List ℕ)
 lacks_option d words seen names index enough taken first are_names = record {
   why = stops.missing_option index;
   told = (index, refl, are_names);
+  kept = λ l. refl;
   stops = λ u v l step words_are are_seen.
       stops.not_complete index v step (subst (λ n. least d.positionals ≤ n) (sym (counted_so d l words words_are)) enough)
       (subst (AreTaken d.positionals) (sym words_are) taken)
@@ -115,32 +93,6 @@ lacks_option d words seen names index enough taken first are_names = record {
 }
 
 -- ---- what was read before a mistake
-
-pub before_is : (d : Declaration) (m : Mistake) (why : stops.Mistake) (l : List legal.Parsed) → IsMistake d m why → before_mistake m l ≡ parsed_before why l
-before_is d (mistake.UnknownOption name hints) why l told = ap (λ w. parsed_before w l) (sym told.1)
-before_is d (mistake.UnexpectedValue option value) why l told = ap (λ w. parsed_before w l) (sym told)
-before_is d (mistake.MissingValue option placeholder) why l told = ap (λ w. parsed_before w l) (sym told.1)
-before_is d (mistake.InvalidValue option value values) why l told = ap (λ w. parsed_before w l) (sym told.1)
-before_is d (mistake.UnexpectedArgument word) why l told = ap (λ w. parsed_before w l) (sym told)
-before_is d (mistake.InvalidArgument placeholder word values) why l told = ap (λ w. parsed_before w l) (sym told.1)
-before_is d (mistake.MissingArgument placeholder) why l told = ap (λ w. parsed_before w l) (sym told.1)
-before_is d (mistake.MissingOption names) why l told = ap (λ w. parsed_before w l) (sym told.1)
-before_is d (mistake.MissingCommand names) why l told = absurd told
-before_is d (mistake.UnknownCommand word rest hints) why l told = absurd told
-before_is d (mistake.InvalidVariable name) why l told = absurd told
-
-pub before_other : (m : Mistake) (l : List legal.Parsed) → ((option : _) (value : _) → m ≡ mistake.UnexpectedValue option value → ⊥) → before_mistake m l ≡ l
-before_other (mistake.UnknownOption name hints) l other = refl
-before_other (mistake.UnexpectedValue option value) l other = absurd (other option value refl)
-before_other (mistake.MissingValue option placeholder) l other = refl
-before_other (mistake.InvalidValue option value values) l other = refl
-before_other (mistake.UnexpectedArgument word) l other = refl
-before_other (mistake.InvalidArgument placeholder word values) l other = refl
-before_other (mistake.MissingArgument placeholder) l other = refl
-before_other (mistake.MissingOption names) l other = refl
-before_other (mistake.MissingCommand names) l other = refl
-before_other (mistake.UnknownCommand word rest hints) l other = refl
-before_other (mistake.InvalidVariable name) l other = refl
 
 pub last_dropped : (l : List legal.Parsed) (s : legal.Parsed) → all_but_last (l ++ s ∷ []) ≡ l
 last_dropped [] s = refl

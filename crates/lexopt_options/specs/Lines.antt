@@ -1,14 +1,12 @@
 -- The results of reading a whole line: the relations of the grammar, for a declaration and the
 -- types of the code.
 use Rattle.std.specs.Prelude.{◌≡◌, ℕ, List, Some, None}
-use Rattle.lexopt_options_spec.specs.Asking.{AskFor, all_but_last, first_asked, parsed_before}
+use Rattle.lexopt_options_spec.specs.Asking.{AskFor, first_asked, parsed_before}
 use Rattle.lexopt_options_spec.specs.Legal as legal
 use Rattle.lexopt_options_spec.specs.Legal.{Means}
 use Rattle.lexopt_options_spec.specs.Stops as stops
 use Rattle.lexopt_options_spec.specs.Stops.{StopsAt}
 use Rattle.lexopt_declaration.specs.Lookups.{help_names}
-use Rattle.lexopt_options.specs.declared.mistake.Mistake.{Mistake}
-use Rattle.lexopt_options.specs.declared.mistake.Mistake.TheVariants as mistake
 use Rattle.lexopt_options.specs.declared.options.Options.{Options}
 use Rattle.lexopt_options.specs.declared.refused.Line.{Line}
 use Rattle.lexopt_options.specs.declared.refused.Line.TheVariants as line
@@ -17,13 +15,6 @@ use Rattle.lexopt_options.specs.declared.parsed.Parsed.{Parsed}
 use Rattle.lexopt_options.specs.Declarations.{declaration_of, options_of, positionals_of}
 use Rattle.lexopt_options.specs.Keys.{AreParsedAs, HaveKeys, asked_view}
 use Rattle.lexopt_options.specs.Mistakes.{IsMistake}
-
--- what was read before this mistake, where all of this was read
-abbrev pub before_mistake : Mistake → List legal.Parsed → List legal.Parsed
-before_mistake (mistake.UnexpectedValue option value) l = all_but_last l
-before_mistake m l = l
-
--- ---- by keys
 
 -- the words legally spell a list that asks for nothing, and these are its elements by the keys
 abbrev pub LineMeans : {F V P M S : Type 0} → Options F V P M S → List (List ℕ) → List (Parsed F V P M S)

@@ -1,30 +1,37 @@
 -- What is read from a line, as contracts see it, and what one step of the reading reads.
-use Rattle.std.specs.Prelude.{None, ◌≡◌, ◌≢◌, ◌<◌, ◌+◌, ◌++◌, ◌∷◌, ℕ, Bool, true, false, List, [], Some}
-use Rattle.std.specs.Prelude.{Option, Result, Ok, Err, slice_get}
+use Rattle.std.specs.Prelude.{None, ◌≡◌, ◌≤◌, ◌<◌, ◌+◌, ◌++◌, ◌∷◌, ℕ, Bool, true, false, List, [], Some}
+use Rattle.std.specs.Prelude.{Option, Result, Ok, Err, length, slice_get, string_bytes}
 use Rattle.lexopt_spec.specs.UnreadLine.{UnreadLine, IsLine, long_option}
 use Rattle.lexopt_spec.specs.Steps as steps
 use Rattle.lexopt_spec.specs.Steps.{Next}
-use Rattle.lexopt_line_spec.specs.Readings.{ReadsFirst, option_reply}
+use Rattle.lexopt_line_spec.specs.Readings.{ReadsFirst, option_reply, start}
 use Rattle.lexopt_line_spec.specs.Bound.{bound}
 use Rattle.lexopt_line_spec.specs.Table.{Item, Name, short, long}
+use Rattle.lexopt_options_spec.specs.Asking.{AskFor, first_asked, parsed_before}
 use Rattle.lexopt_options_spec.specs.Declaration as declared
 use Rattle.lexopt_options_spec.specs.Declaration.{Declaration, has, index_of}
 use Rattle.lexopt_options_spec.specs.Completion.{IsOption}
 use Rattle.lexopt_options_spec.specs.Leading.{IsOfOption}
 use Rattle.lexopt_options_spec.specs.Legal as spec
-use Rattle.lexopt_options_spec.specs.Legal.{IsWithin, counts, is_required, most, occurs}
-use Rattle.lexopt_options_spec.specs.Legal.{positional_count, refused_value, parsed_item}
+use Rattle.lexopt_options_spec.specs.Legal.{IsWithin, are_accepted, counts, is_required, most, occurs}
+use Rattle.lexopt_options_spec.specs.Legal.{positional_count, positional_words, refused_value, parsed_item}
+use Rattle.lexopt_options_spec.specs.Places.{AreTaken, least}
 use Rattle.lexopt_options_spec.specs.Stops as stops
-use Rattle.lexopt_options_spec.specs.Stops.{Stops}
+use Rattle.lexopt_options_spec.specs.Stops.{ReadsUpTo, Stops, StopsAt}
 use Rattle.lexopt_items.specs.declared.values.Values.{Values}
 use Rattle.lexopt_items.specs.declared.values.Values.TheVariants.{AtMostOne, All}
 use Rattle.lexopt_options.specs.declared.mistake.Mistake.{Mistake}
+use Rattle.lexopt_options.specs.declared.options.Options.{Options}
+use Rattle.lexopt_options.specs.declared.parsed.Parsed.{Parsed}
+use Rattle.lexopt_options.specs.declared.read.Ended.{Ended}
+use Rattle.lexopt_options.specs.declared.read.Ended.TheVariants as ended
 use Rattle.lexopt_options.specs.declared.read.Outcome.{Outcome}
 use Rattle.lexopt_options.specs.declared.read.Outcome.TheVariants as outcome
 use Rattle.lexopt_declaration.specs.Models.{option_view}
 use Rattle.lexopt_declaration.specs.declared.declaration.Declared.{Declared}
 use Rattle.lexopt_options.specs.declared.parsed.ByKey.{ByKey}
-use Rattle.lexopt_options.specs.Keys.{IsByKey}
+use Rattle.lexopt_options.specs.Declarations.{declaration_of, options_of, positionals_of}
+use Rattle.lexopt_options.specs.Keys.{AllFirst, AreParsedAs, IsByKey, asked_view, positional_keys}
 use Rattle.lexopt_options.specs.Mistakes.{IsMistake}
 
 -- an option with these values
@@ -42,33 +49,14 @@ pub record ReadsParsed (d : Declaration) (count : ℕ) (u : UnreadLine) (s : spe
   pub line : IsLine u → IsLine v
   pub within : IsWithin count (most d.positionals) → IsWithin (count + counts s) (most d.positionals)
 
--- whatever was read before, the reading stops at an option with this mistake
+-- Whatever was read before, the reading stops at an option with this mistake. It is not that the
+-- option has an unexpected value.
 pub record StopsAtOption (d : Declaration) (u : UnreadLine) (mistake : Mistake) : Type 0 where
   pub why : stops.Mistake
   pub told : IsMistake d mistake why
   pub of_option : IsOfOption why
-  pub stops : (l : List spec.Parsed) → Stops d l u why
-
--- after `count` positionals the reading stops at an option with this mistake, which may also be
--- that it does not accept a value
-pub record StopsByKey (d : Declaration) (count : ℕ) (u : UnreadLine) (mistake : Mistake)
-    : Type 0 where
-  pub why : stops.Mistake
-  pub told : IsMistake d mistake why
-  pub of_option : IsOfOption why
-  pub stops : (l : List spec.Parsed) → IsLine u → count ≡ positional_count l → Stops d l u why
-
--- After `count` positionals, of which there may be `limit`, the reading stops with this mistake.
--- Without a limit it is that an option without values has one, whatever was read before.
-pub record StopsWithin (d : Declaration) (limit : Option ℕ) (count : ℕ) (u : UnreadLine)
-    (mistake : Mistake) : Type 0 where
-  pub why : stops.Mistake
-  pub told : IsMistake d mistake why
-  pub stops : (l : List spec.Parsed) → limit ≡ most d.positionals → count ≡ positional_count l
-      → Stops d l u why
-  pub of_option : limit ≡ None → IsOfOption why × ((l : List spec.Parsed) → Stops d l u why)
-      × (option : List ℕ) × (value : List ℕ) × (v : UnreadLine)
-      × Next u (steps.unexpected option value) v
+  pub kept : (l : List spec.Parsed) → parsed_before why l ≡ l
+  pub stops : (l : List spec.Parsed) → IsLine u → Stops d l u why
 
 -- an option comes next that is not declared: the short one with this character, or a long one
 abbrev pub UndeclaredNext : Declaration → UnreadLine → Option ℕ → UnreadLine → Type 0
@@ -76,15 +64,15 @@ UndeclaredNext d u (Some c) v = Next u (steps.short c) v × (index_of d.options 
 UndeclaredNext d u None v = (name : List ℕ) × (v.last ≡ long_option name)
     × Next u (steps.long name) v × (index_of d.options (long name) ≡ None)
 
--- after `count` positionals, of which there may be `limit`, this comes next
-abbrev pub ComesNext : Declaration → Option ℕ → ℕ → UnreadLine → Outcome → UnreadLine → Type 0
-ComesNext d limit count u (outcome.Option index) v = (name : Name) × Next u (option_reply name) v
+-- this comes next
+abbrev pub ComesNext : Declaration → UnreadLine → Outcome → UnreadLine → Type 0
+ComesNext d u (outcome.Option index) v = (name : Name) × Next u (option_reply name) v
     × (index_of d.options name ≡ Some index)
-ComesNext d limit count u (outcome.Positional word) v = Next u (steps.positional word) v
-    × (limit ≢ Some count)
-ComesNext d limit count u outcome.End v = Next u steps.end v
-ComesNext d limit count u (outcome.Undeclared c) v = UndeclaredNext d u c v
-ComesNext d limit count u (outcome.Mistake mistake) v = StopsWithin d limit count u mistake
+ComesNext d u (outcome.Positional word) v = Next u (steps.positional word) v
+ComesNext d u outcome.End v = Next u steps.end v
+ComesNext d u (outcome.Undeclared c) v = UndeclaredNext d u c v
+ComesNext d u (outcome.Unexpected option value) v =
+    Next u (steps.unexpected (string_bytes option) value) v
 
 -- ---- the end of a line
 
@@ -108,6 +96,23 @@ abbrev pub noted : Bool → ℕ → List ℕ → List ℕ
 noted true index seen = seen ++ index ∷ []
 noted false index seen = seen
 
+-- at the end of a line with these positionals and these required options, nothing is missing, and
+-- each word is accepted
+pub record IsRight (d : Declaration) (words : List (List ℕ)) (seen : List ℕ) : Type 0 where
+  pub enough : least d.positionals ≤ length words
+  pub taken : AreTaken d.positionals words
+  pub all : AllSeen d.options seen
+
+-- at the end of a line with these positionals and these required options, something is missing or a
+-- word is not accepted, which is this mistake
+pub record IsWrong (d : Declaration) (words : List (List ℕ)) (seen : List ℕ) (mistake : Mistake)
+    : Type 0 where
+  pub why : stops.Mistake
+  pub told : IsMistake d mistake why
+  pub kept : (l : List spec.Parsed) → parsed_before why l ≡ l
+  pub stops : (u v : UnreadLine) (l : List spec.Parsed) → Next u steps.end v
+      → positional_words l ≡ words → AreSeen d.options l seen → Stops d l u why
+
 -- ---- what one option is
 
 -- the option at this index is read with its values, by its key; or it is the mistake that it has
@@ -117,7 +122,7 @@ abbrev pub IsReadByKey : {F V P M S : Type 0} → Declaration → List (Declared
 IsReadByKey d options index count u (Ok told) v = (s : spec.Parsed) × ReadsParsed d count u s v
     × IsByKey options s told × (counts s ≡ 0) × IsOption index s
     × (refused_value d.options s ≡ None)
-IsReadByKey d options index count u (Err mistake) v = StopsByKey d count u mistake
+IsReadByKey d options index count u (Err mistake) v = StopsAtOption d u mistake
 
 -- ---- the values that an option accepts
 
@@ -126,3 +131,47 @@ abbrev pub IsInvalidValue : {F V M S : Type 0} → Declared F V M S → List ℕ
 IsInvalidValue option value mistake = (d : Declaration) (i : ℕ)
     → slice_get d.options i ≡ Some (option_view option)
     → IsMistake d mistake (stops.invalid_value i value)
+
+-- ---- how the reading of a line ends
+
+-- The line u was read up to v, and this was read, by keys, with `count` positionals, of which there
+-- may be `limit`. Nothing was asked for.
+pub record HasRead {F V P M S : Type 0} (o : Options F V P M S) (limit : Option ℕ) (u v : UnreadLine)
+    (count : ℕ) (seen : List ℕ) (parsed : List (Parsed F V P M S)) : Type 0 where
+  pub l : List spec.Parsed
+  pub read : ReadsUpTo (declaration_of o) u l v
+  pub none : first_asked (declaration_of o).options l ≡ None
+  pub are : AreParsedAs (options_of o) l parsed
+  pub counted : count ≡ positional_count l
+  pub limited : IsWithin count limit
+  pub are_seen : AreSeen (declaration_of o).options l seen
+  pub firsts : AllFirst (positionals_of o) (positional_keys parsed)
+  pub accepted : are_accepted (declaration_of o).options l ≡ true
+
+-- The reading of the words stops at this mistake. Before it they mean this, by keys, and ask for
+-- nothing.
+pub record HasStopped {F V P M S : Type 0} (o : Options F V P M S) (words : List (List ℕ))
+    (parsed : List (Parsed F V P M S)) (mistake : Mistake) : Type 0 where
+  pub why : stops.Mistake
+  pub told : IsMistake (declaration_of o) mistake why
+  pub read : List spec.Parsed
+  pub stops : StopsAt (declaration_of o) words read why
+  pub own : first_asked (declaration_of o).options (parsed_before why read) ≡ None
+  pub before : AreParsedAs (options_of o) (parsed_before why read) parsed
+  pub firsts : AllFirst (positionals_of o) (positional_keys parsed)
+
+-- the reading of the words, up to one positional more than `limit`, ends so
+abbrev pub HasEnded : {F V P M S : Type 0} → Options F V P M S → List (List ℕ) → Option ℕ → ℕ → List ℕ
+    → List (Parsed F V P M S) → Ended → UnreadLine → Type 0
+HasEnded o words limit count seen parsed ended.End v = (u : UnreadLine)
+    × HasRead o limit (start (declaration_of o).short_equals words) u count seen parsed
+    × Next u steps.end v
+HasEnded o words limit count seen parsed (ended.Positional word) v = (u : UnreadLine)
+    × HasRead o limit (start (declaration_of o).short_equals words) u count seen parsed
+    × Next u (steps.positional word) v × (limit ≡ Some count)
+HasEnded o words limit count seen parsed (ended.Asked asked) v =
+    (asks : AskFor (declaration_of o) words (asked_view asked))
+    × IsWithin (positional_count asks.before) limit
+HasEnded o words limit count seen parsed (ended.Mistake mistake) v =
+    (stopped : HasStopped o words parsed mistake) × IsOfOption stopped.why
+    × IsWithin (positional_count stopped.read) limit

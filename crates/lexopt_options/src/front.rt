@@ -282,7 +282,7 @@ pub(crate) fn read_front<F, V, P, M, S>(
     let mut last = None;
     let mut going_on = None;
     loop {
-        match read_next(parser, options, None, 0)? {
+        match read_next(parser, options)? {
             Outcome::Option(index) => {
                 let option = &declared[index];
                 note(options, index, &mut seen)?;
@@ -332,7 +332,7 @@ pub(crate) fn read_front<F, V, P, M, S>(
                 return Ok(Begun::Front(Some(front), ends));
             }
             Outcome::Undeclared(_) => return Ok(Begun::Front(None, false)),
-            Outcome::Mistake(_) => return Ok(Begun::Front(None, false)),
+            Outcome::Unexpected(..) => return Ok(Begun::Front(None, false)),
         }
     }
 }

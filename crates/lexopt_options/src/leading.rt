@@ -1,32 +1,26 @@
 //! Reads the leading options of a line: those before its first positional.
-ghost use Rattle.std.specs.Prelude.{◌≡◌, ◌++◌, ◌∷◌, ℕ, [], IfOk, List, None, OnOk, Some, true};
-ghost use Rattle.lexopt_spec.specs.UnreadLine.{IsLine, UnreadLine, pending};
+ghost use Rattle.std.specs.Prelude.{◌≡◌, ◌++◌, ◌∷◌, ℕ, IfOk, List, None, OnOk, Some};
+ghost use Rattle.lexopt_spec.specs.UnreadLine.{UnreadLine, pending};
 ghost use Rattle.lexopt_spec.specs.Steps.{Next, Reply};
 ghost use Rattle.lexopt_line_spec.specs.Readings.{start};
-ghost use Rattle.lexopt_options_spec.specs.Asking.{asked_by, first_asked};
+ghost use Rattle.lexopt_options_spec.specs.Asking.{first_asked, parsed_before};
 ghost use Rattle.lexopt_options_spec.specs.Leading.{EndsOptions, IsSplit, LeadingStopsAt};
 ghost use Rattle.lexopt_options_spec.specs.Leading.{MeansLeading};
 ghost use Rattle.lexopt_options_spec.specs.Legal as legal;
-ghost use Rattle.lexopt_options_spec.specs.Legal.{are_accepted, positional_count};
 ghost use Rattle.lexopt_options_spec.specs.Stops as stops;
-ghost use Rattle.lexopt_options_spec.specs.Stops.{ReadsUpTo};
 ghost use Rattle.lexopt_options.specs.Declarations.{declaration_of, options_of};
-ghost use Rattle.lexopt_options.specs.Keys.{AreParsedAs, asked_view};
-ghost use Rattle.lexopt_options.specs.LeadingLines.{IsLeadingOf, IsLeadingRead, IsLeadingRefused};
+ghost use Rattle.lexopt_options.specs.Keys.{AreParsedAs};
+ghost use Rattle.lexopt_options.specs.LeadingLines.{IsLeadingOf, IsLeadingRead};
 ghost use Rattle.lexopt_options.specs.Mistakes.{IsMistake};
-ghost use Rattle.lexopt_options.specs.Reading.{AreSeen};
+ghost use Rattle.lexopt_options.specs.Reading.{HasRead};
 
 use crate::mistake::Mistake;
 use crate::options::Options;
-use crate::parsed::{Asked, ByKey, Parsed};
-use crate::read::{
-    FIRST_ROOM, Outcome, missing_option, note, parsed_before, read_by_key, read_next,
-    unknown_option,
-};
+use crate::parsed::{Asked, Parsed};
+use crate::read::{Ended, FIRST_ROOM, Read, missing_option, read_keys};
 use crate::refused::Refused;
 use lexopt_base::parser::Parser;
 use lexopt_base::raw::RawArgs;
-use lexopt_base::refusal::Refusal;
 use lexopt_words::os_string::OsString;
 use std::alloc::{AllocError, Global};
 use std::convert::Infallible;
@@ -43,61 +37,25 @@ pub enum Leading<'a, F, V = Infallible, P = Infallible, M = Infallible, S = Infa
     Refused(Refused<'a, F, V, P, M, S>),
 }
 
-// Refuses leading options for a mistake, before which all of this was read.
-fn refuse<'a, F: Drop, V: Drop, P: Drop, M: Drop, S: Drop>(
+// Refuses leading options for a mistake, before which they mean this.
+fn refuse<'a, F, V, P, M, S>(
     options: &Options<'a, F, V, P, M, S>,
-    parsed: Vec<Parsed<F, V, P, M, S>>,
+    before: Vec<Parsed<F, V, P, M, S>>,
     mistake: Mistake<'a>,
-) -> Refused<'a, F, V, P, M, S>
+) -> Leading<'a, F, V, P, M, S>
     ensures { (words : List (List ℕ)) (why : stops.Mistake) (l : List legal.Parsed)
         → IsMistake (declaration_of options.now) mistake.entry why
         → LeadingStopsAt (declaration_of options.now) words l why
-        → first_asked (declaration_of options.now).options l ≡ None
-        → AreParsedAs (options_of options.now) l parsed.items
-        → IsLeadingRefused options.now words result }
+        → first_asked (declaration_of options.now).options (parsed_before why l) ≡ None
+        → AreParsedAs (options_of options.now) (parsed_before why l) before.items
+        → IsLeadingRead options.now words result }
 {
-    let before = parsed_before(parsed, &mistake);
-    Refused {
+    Leading::Refused(Refused {
         program: options.program(),
         help: options.help_names(),
         before,
         mistake,
-    }
-}
-
-// Ends at the option that was read last, which asks for this. A value joined to it is a mistake.
-fn ask<'a, F: Drop, V: Drop, P: Drop, M: Drop, S: Drop>(
-    parser: &mut Parser,
-    options: &Options<'a, F, V, P, M, S>,
-    parsed: Vec<Parsed<F, V, P, M, S>>,
-    asked: Asked<'a>,
-) -> Result<Leading<'a, F, V, P, M, S>, AllocError>
-    ensures { (words : List (List ℕ)) (l : List legal.Parsed) (s : legal.Parsed)
-        → ReadsUpTo (declaration_of options.now)
-        (start (declaration_of options.now).short_equals words) (l ++ s ∷ []) parser.old
-        → positional_count l ≡ 0
-        → first_asked (declaration_of options.now).options l ≡ None
-        → asked_by (declaration_of options.now).options s ≡ Some (asked_view asked.entry)
-        → AreParsedAs (options_of options.now) l parsed.items
-        → are_accepted (declaration_of options.now).options (l ++ s ∷ []) ≡ true
-        → IfOk result (λ leading. IsLeadingRead options.now words leading) }
-{
-    match parser.advance() {
-        Ok(_) => Ok(Leading::Asked(asked)),
-        Err(refused) => match refused {
-            Refusal::UnexpectedValue { option, value } => {
-                let mistake = Mistake::UnexpectedValue { option, value };
-                Ok(Leading::Refused(Refused {
-                    program: options.program(),
-                    help: options.help_names(),
-                    before: parsed,
-                    mistake,
-                }))
-            }
-            Refusal::OutOfMemory => Err(AllocError),
-            Refusal::MissingValue(_) => unreachable!(),
-        },
-    }
+    })
 }
 
 // Ends the leading options where the line ends, or where this rest begins.
@@ -107,19 +65,15 @@ fn end<'a, F: Drop, V: Drop, P: Drop, M: Drop, S: Drop>(
     seen: &[usize],
     rest: Vec<OsString>,
 ) -> Leading<'a, F, V, P, M, S>
-    ensures { (words : List (List ℕ)) (l : List legal.Parsed) (u v : UnreadLine) (reply : Reply)
-        → ReadsUpTo (declaration_of options.now)
-        (start (declaration_of options.now).short_equals words) l u → Next u reply v
-        → EndsOptions reply → positional_count l ≡ 0
-        → IsSplit (declaration_of options.now) words l rest.items
-        → AreSeen (declaration_of options.now).options l seen.now
-        → first_asked (declaration_of options.now).options l ≡ None
-        → AreParsedAs (options_of options.now) l parsed.items
-        → are_accepted (declaration_of options.now).options l ≡ true
+    ensures { (words : List (List ℕ)) (u v : UnreadLine) (count : ℕ) (reply : Reply)
+        (had : HasRead options.now (Some 0)
+        (start (declaration_of options.now).short_equals words) u count seen.now parsed.items)
+        → Next u reply v → EndsOptions reply
+        → IsSplit (declaration_of options.now) words had.l rest.items
         → IsLeadingRead options.now words result }
 {
     match missing_option(options, seen) {
-        Some(names) => Leading::Refused(refuse(options, parsed, Mistake::MissingOption(names))),
+        Some(names) => refuse(options, parsed, Mistake::MissingOption(names)),
         None => Leading::Parsed(parsed, rest),
     }
 }
@@ -158,43 +112,31 @@ pub(crate) fn words_from(
     }
 }
 
-// Reads the leading options of a line into a list that has room for `room` things from the start.
+// Reads the leading options of a line by keys.
 fn read_options<'a, F: Copy, V: Copy, P: Copy, M: Copy, S: Copy>(
     alloc: Global,
-    parser: &mut Parser,
     options: &Options<'a, F, V, P, M, S>,
-    room: usize,
+    words: Vec<OsString>,
 ) -> Result<Leading<'a, F, V, P, M, S>, AllocError>
-    requires { IsLine parser.old }
-    ensures { (words : List (List ℕ))
-        → parser.old ≡ start (declaration_of options.now).short_equals words
-        → IfOk result (λ leading. IsLeadingRead options.now words leading) }
+    ensures { IfOk result (λ leading. IsLeadingRead options.now words.items leading) }
 {
-    let mut parsed = Vec::with_capacity(alloc, room)?;
-    let mut seen = Vec::new(alloc);
-    loop {
-        match read_next(parser, options, None, 0)? {
-            Outcome::Option(index) => match read_by_key(alloc, parser, options, index)? {
-                Ok(ByKey::Parsed(own)) => {
-                    parsed.push(own)?;
-                    note(options, index, &mut seen)?;
-                }
-                Ok(ByKey::Asked(asked)) => return ask(parser, options, parsed, asked),
-                Err(mistake) => return Ok(Leading::Refused(refuse(options, parsed, mistake))),
-            },
-            Outcome::Positional(word) => {
-                let rest = words_from(alloc, parser, word)?;
-                return Ok(end(options, parsed, &seen, rest));
-            }
-            Outcome::End => return Ok(end(options, parsed, &seen, Vec::new(alloc))),
-            Outcome::Undeclared(short) => {
-                let mistake = unknown_option(alloc, parser, options, short)?;
-                return Ok(Leading::Refused(refuse(options, parsed, mistake)));
-            }
-            Outcome::Mistake(mistake) => {
-                return Ok(Leading::Refused(refuse(options, parsed, mistake)));
-            }
+    let room = words.len().min(FIRST_ROOM);
+    let mut parser = options.parser_of(words);
+    let read = read_keys(alloc, &mut parser, options, Some(0), room)?;
+    let Read {
+        parsed,
+        seen,
+        ended,
+        ..
+    } = read;
+    match ended {
+        Ended::End => Ok(end(options, parsed, &seen, Vec::new(alloc))),
+        Ended::Positional(word) => {
+            let rest = words_from(alloc, &mut parser, word)?;
+            Ok(end(options, parsed, &seen, rest))
         }
+        Ended::Asked(asked) => Ok(Leading::Asked(asked)),
+        Ended::Mistake(mistake) => Ok(refuse(options, parsed, mistake)),
     }
 }
 
@@ -250,8 +192,6 @@ impl<'a, F: Copy, V: Copy, P: Copy, M: Copy, S: Copy> Options<'a, F, V, P, M, S>
             → MeansLeading (declaration_of self.now) words.items l rest
             → IfOk result (λ leading. IsLeadingOf self.now l rest leading) }
     {
-        let room = words.len().min(FIRST_ROOM);
-        let mut parser = self.parser_of(words);
-        read_options(alloc, &mut parser, self, room)
+        read_options(alloc, self, words)
     }
 }

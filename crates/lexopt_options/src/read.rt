@@ -1,6 +1,6 @@
 //! Reads a whole line by a declaration. `leading.rt` reads only the leading options.
 ghost use Rattle.std.specs.Prelude.{◌≡◌, ◌≢◌, ◌≤◌, ◌↔◌, ◌∷◌, ◌++◌, ℕ, List, [], IfOk, OnOk};
-ghost use Rattle.std.specs.Prelude.{IsTrue, None, Some, false, map, true};
+ghost use Rattle.std.specs.Prelude.{IsTrue, None, Option, Some, false, length, map};
 ghost use Rattle.std.specs.List.{list_any};
 ghost use Rattle.std.specs.Option.{MatchOption};
 ghost use Rattle.lexopt_spec.specs.UnreadLine.{IsLine, Tail, UnreadLine};
@@ -9,28 +9,26 @@ ghost use Rattle.lexopt_spec.specs.Steps.{Next};
 ghost use Rattle.lexopt_line_spec.specs.Readings.{option_reply, start};
 ghost use Rattle.lexopt_line_spec.specs.Table as table;
 ghost use Rattle.lexopt_options_spec.specs.Declaration.{has, index_of};
-ghost use Rattle.lexopt_options_spec.specs.Asking as asking;
-ghost use Rattle.lexopt_options_spec.specs.Asking.{asked_by, first_asked};
+ghost use Rattle.lexopt_options_spec.specs.Asking.{asked_by};
 ghost use Rattle.lexopt_options_spec.specs.Legal as legal;
-ghost use Rattle.lexopt_options_spec.specs.Legal.{are_accepted, is_required, most};
-ghost use Rattle.lexopt_options_spec.specs.Legal.{positional_count};
+ghost use Rattle.lexopt_options_spec.specs.Legal.{IsWithin, counts, is_required, most};
+ghost use Rattle.lexopt_options_spec.specs.Legal.{refused_value};
 ghost use Rattle.lexopt_options_spec.specs.Places.{least};
 ghost use Rattle.lexopt_options_spec.specs.Stops as stops;
-ghost use Rattle.lexopt_options_spec.specs.Stops.{ReadsUpTo, StopsAt};
 ghost use Rattle.lexopt_declaration.specs.Models.{option_view};
 ghost use Rattle.lexopt_items.specs.Items.{ValuesEndBy, kind_view};
 ghost use Rattle.lexopt_items.specs.declared.kinds.Kind.{Kind};
-ghost use Rattle.lexopt_declaration.specs.declared.declaration.Declared.{Declared};
 ghost use Rattle.lexopt_declaration.specs.Lookups.{names_at};
-ghost use Rattle.lexopt_declaration.specs.declared.declaration.Positional.{Positional};
 ghost use Rattle.lexopt_options.specs.Declarations.{declaration_of, options_of, positionals_of};
-ghost use Rattle.lexopt_options.specs.Keys.{AllFirst, AreParsedAs, asked_view, positional_keys};
+ghost use Rattle.lexopt_options.specs.Keys.{asked_view, parsed_words};
 ghost use Rattle.lexopt_options.specs.Kinds as kinds;
 ghost use Rattle.lexopt_options.specs.Taken.{has_list};
 ghost use Rattle.lexopt_options.specs.Mistakes.{AreNames, IsMistake};
-ghost use Rattle.lexopt_options.specs.Lines.{IsLineRead, before_mistake};
-ghost use Rattle.lexopt_options.specs.Reading.{AllSeen, AreSeen, ComesNext, UndeclaredNext};
-ghost use Rattle.lexopt_options.specs.Reading.{IsFirstUnseen, IsReadByKey, StopsAtOption, noted};
+ghost use Rattle.lexopt_options.specs.Lines.{IsLineRead};
+ghost use Rattle.lexopt_options.specs.Reading.{AllSeen, ComesNext, UndeclaredNext};
+ghost use Rattle.lexopt_options.specs.Reading.{HasEnded, HasRead, HasStopped, IsFirstUnseen};
+ghost use Rattle.lexopt_options.specs.Reading.{IsReadByKey, IsRight, IsWrong, ReadsParsed};
+ghost use Rattle.lexopt_options.specs.Reading.{StopsAtOption, noted};
 
 use crate::listed::{accepts, invalid_value, refused_place};
 use crate::mistake::{Mistake, OptionName, short_hints};
@@ -52,7 +50,7 @@ use std::alloc::{AllocError, Global};
 
 // What the next step of reading a line finds.
 #[derive(Drop)]
-pub enum Outcome<'a> {
+pub enum Outcome {
     // The option at this index, whose values are not read yet.
     Option(usize),
     // A positional.
@@ -61,8 +59,35 @@ pub enum Outcome<'a> {
     End,
     // An option that is not declared: the short one with this character, or else a long one.
     Undeclared(Option<char>),
-    // Another mistake, where the reading stops.
+    // An option without values, with its dashes, and the value that is joined to it.
+    Unexpected(String, OsString),
+}
+
+// How the reading of a line ended.
+#[derive(Drop)]
+pub enum Ended<'a> {
+    // The line was read to its end.
+    End,
+    // This is one positional more than there may be.
+    Positional(OsString),
+    // The option that was read last asks for this.
+    Asked(Asked<'a>),
+    // An option has a mistake.
     Mistake(Mistake<'a>),
+}
+
+// What was read of a line.
+#[derive(Drop)]
+pub struct Read<'a, F, V, P, M, S> {
+    // What the line means, by keys; if an option has a mistake, then before it. Each positional has
+    // the key of the first declared one.
+    pub parsed: Vec<Parsed<F, V, P, M, S>>,
+    // The indices of the required options that were read.
+    pub seen: Vec<usize>,
+    // The number of positionals.
+    pub count: usize,
+    // How the reading ended.
+    pub ended: Ended<'a>,
 }
 
 // The mistake that the option at this index, which was just read, has no value.
@@ -183,8 +208,8 @@ fn unknown_short<'a, F, V, P, M, S>(
 }
 
 // The mistake that an option, which was just read, is not declared: the short one with this
-// character, or else a long one. This takes the rest of its cluster. It is not inlined, so that the
-// loops that call it have no room for its result to clear for each word.
+// character, or else a long one. This takes the rest of its cluster. It is not inlined, so that
+// `read_keys` has no room for its result to clear for each word.
 #[cold]
 #[inline(never)]
 pub fn unknown_option<'a, F, V, P, M, S>(
@@ -213,17 +238,15 @@ pub fn is_full(limit: Option<usize>, count: usize) -> bool
     }
 }
 
-// Reads what comes next in a line after `count` positionals, of which there may be `limit`. It is
-// always inlined: a call would clear the places of its results, some 450 bytes, for each word.
+// Reads what comes next in a line. It is always inlined: a call would clear the places of its
+// results for each word.
 #[inline(always)]
-pub fn read_next<'a, F, V, P, M, S>(
+pub fn read_next<F, V, P, M, S>(
     parser: &mut Parser,
-    options: &Options<'a, F, V, P, M, S>,
-    limit: Option<usize>,
-    count: usize,
-) -> Result<Outcome<'a>, AllocError>
+    options: &Options<'_, F, V, P, M, S>,
+) -> Result<Outcome, AllocError>
     ensures { IfOk result (λ outcome.
-        ComesNext (declaration_of options.now) limit count parser.old outcome parser.new) }
+        ComesNext (declaration_of options.now) parser.old outcome parser.new) }
 {
     match parser.advance() {
         Ok(Found::Short(option)) => match index_of_short(options.options(), option) {
@@ -234,18 +257,10 @@ pub fn read_next<'a, F, V, P, M, S>(
             Some(index) => Ok(Outcome::Option(index)),
             None => Ok(Outcome::Undeclared(None)),
         },
-        Ok(Found::Value(word)) => {
-            if is_full(limit, count) {
-                Ok(Outcome::Mistake(Mistake::UnexpectedArgument(word)))
-            } else {
-                Ok(Outcome::Positional(word))
-            }
-        }
+        Ok(Found::Value(word)) => Ok(Outcome::Positional(word)),
         Ok(Found::End) => Ok(Outcome::End),
         Err(refused) => match refused {
-            Refusal::UnexpectedValue { option, value } => {
-                Ok(Outcome::Mistake(Mistake::UnexpectedValue { option, value }))
-            }
+            Refusal::UnexpectedValue { option, value } => Ok(Outcome::Unexpected(option, value)),
             Refusal::OutOfMemory => Err(AllocError),
             Refusal::MissingValue(_) => unreachable!(),
         },
@@ -324,138 +339,6 @@ pub fn note<F, V, P, M, S>(
     }
 }
 
-// Refuses a line. This function and the others here that are always inlined are so for speed: a
-// call would be handed what was read, which would then stay in memory and not in registers while
-// the line is read.
-#[inline(always)]
-fn refuse<'a, F, V, P: Copy, M, S>(
-    options: &Options<'a, F, V, P, M, S>,
-    mut before: Vec<Parsed<F, V, P, M, S>>,
-    mistake: Mistake<'a>,
-) -> Line<'a, F, V, P, M, S>
-    ensures { (words : List (List ℕ)) (why : stops.Mistake) (l : List legal.Parsed)
-        → IsMistake (declaration_of options.now) mistake.entry why
-        → StopsAt (declaration_of options.now) words l why
-        → first_asked (declaration_of options.now).options (asking.parsed_before why l) ≡ None
-        → AreParsedAs (options_of options.now) (asking.parsed_before why l) before.items
-        → AllFirst (positionals_of options.now) (positional_keys before.items)
-        → IsLineRead options.now words result }
-{
-    give_keys(options.positionals(), &mut before);
-    Line::Refused(Refused {
-        program: options.program(),
-        help: options.help_names(),
-        before,
-        mistake,
-    })
-}
-
-// What the line means before a mistake, where all of `parsed` was read: without the last option, if
-// the mistake is that it has an unexpected value.
-pub fn parsed_before<F: Drop, V: Drop, P: Drop, M: Drop, S: Drop>(
-    mut parsed: Vec<Parsed<F, V, P, M, S>>,
-    mistake: &Mistake<'_>,
-) -> Vec<Parsed<F, V, P, M, S>>
-    ensures same { (options : List (Declared F V M S)) (l : List legal.Parsed)
-        → AreParsedAs options l parsed.items
-        → AreParsedAs options (before_mistake mistake.now l) result.items }
-    ensures keys { (positionals : List (Positional P))
-        → AllFirst positionals (positional_keys parsed.items)
-        → AllFirst positionals (positional_keys result.items) }
-{
-    if let Mistake::UnexpectedValue { .. } = mistake {
-        let count = parsed.len().saturating_sub(1);
-        parsed.truncate(count);
-    }
-    parsed
-}
-
-// Refuses a line that stops at a mistake, where all of `parsed` was read.
-#[inline(always)]
-fn stop<'a, F: Drop, V: Drop, P: Copy, M: Drop, S: Drop>(
-    options: &Options<'a, F, V, P, M, S>,
-    parsed: Vec<Parsed<F, V, P, M, S>>,
-    mistake: Mistake<'a>,
-) -> Line<'a, F, V, P, M, S>
-    ensures { (words : List (List ℕ)) (why : stops.Mistake) (l : List legal.Parsed)
-        → IsMistake (declaration_of options.now) mistake.entry why
-        → StopsAt (declaration_of options.now) words l why
-        → first_asked (declaration_of options.now).options l ≡ None
-        → AreParsedAs (options_of options.now) l parsed.items
-        → AllFirst (positionals_of options.now) (positional_keys parsed.items)
-        → IsLineRead options.now words result }
-{
-    let before = parsed_before(parsed, &mistake);
-    refuse(options, before, mistake)
-}
-
-// Ends at the option that was read last, which asks for this. A value joined to it is a mistake.
-fn ask<'a, F, V, P, M, S>(
-    parser: &mut Parser,
-    options: &Options<'a, F, V, P, M, S>,
-    parsed: Vec<Parsed<F, V, P, M, S>>,
-    asked: Asked<'a>,
-) -> Result<Line<'a, F, V, P, M, S>, AllocError>
-where
-    F: Drop,
-    V: Drop,
-    P: Copy,
-    M: Drop,
-    S: Drop,
-    ensures { (words : List (List ℕ)) (l : List legal.Parsed) (s : legal.Parsed)
-        → ReadsUpTo (declaration_of options.now)
-        (start (declaration_of options.now).short_equals words) (l ++ s ∷ []) parser.old
-        → first_asked (declaration_of options.now).options l ≡ None
-        → asked_by (declaration_of options.now).options s ≡ Some (asked_view asked.entry)
-        → AreParsedAs (options_of options.now) l parsed.items
-        → AllFirst (positionals_of options.now) (positional_keys parsed.items)
-        → are_accepted (declaration_of options.now).options (l ++ s ∷ []) ≡ true
-        → IfOk result (λ line. IsLineRead options.now words line) }
-{
-    match parser.advance() {
-        Ok(_) => Ok(Line::Asked(asked)),
-        Err(refused) => match refused {
-            Refusal::UnexpectedValue { option, value } => {
-                Ok(refuse(options, parsed, Mistake::UnexpectedValue { option, value }))
-            }
-            Refusal::OutOfMemory => Err(AllocError),
-            Refusal::MissingValue(_) => unreachable!(),
-        },
-    }
-}
-
-// Ends a line where something may be missing, or a word may not be in its list.
-#[inline(always)]
-fn end_checked<'a, F: Drop, V: Drop, P: Copy, M: Drop, S: Drop>(
-    options: &Options<'a, F, V, P, M, S>,
-    mut parsed: Vec<Parsed<F, V, P, M, S>>,
-    count: usize,
-    seen: &[usize],
-) -> Result<Line<'a, F, V, P, M, S>, AllocError>
-    ensures { (words : List (List ℕ)) (l : List legal.Parsed) (u v : UnreadLine)
-        → ReadsUpTo (declaration_of options.now)
-        (start (declaration_of options.now).short_equals words) l u → Next u steps.end v
-        → count ≡ positional_count l → AreSeen (declaration_of options.now).options l seen.now
-        → first_asked (declaration_of options.now).options l ≡ None
-        → AreParsedAs (options_of options.now) l parsed.items
-        → AllFirst (positionals_of options.now) (positional_keys parsed.items)
-        → are_accepted (declaration_of options.now).options l ≡ true
-        → IfOk result (λ line. IsLineRead options.now words line) }
-{
-    if count < options.least() {
-        let placeholder = argument_placeholder(options.positionals(), count);
-        return Ok(stop(options, parsed, Mistake::MissingArgument(placeholder)));
-    }
-    if let Some(mistake) = invalid_argument(options, &parsed)? {
-        return Ok(stop(options, parsed, mistake));
-    }
-    if let Some(names) = missing_option(options, seen) {
-        return Ok(stop(options, parsed, Mistake::MissingOption(names)));
-    }
-    give_keys(options.positionals(), &mut parsed);
-    Ok(Line::Parsed(parsed))
-}
-
 // Whether nothing can be missing from a line with `count` positionals, and no word has to be in a
 // list.
 fn is_complete<F, V, P, M, S>(options: &Options<'_, F, V, P, M, S>, count: usize) -> bool
@@ -472,69 +355,172 @@ fn is_complete<F, V, P, M, S>(options: &Options<'_, F, V, P, M, S>, count: usize
     !options.has_required()
 }
 
-// Ends a line that was read to its end.
-fn end<'a, F: Drop, V: Drop, P: Copy, M: Drop, S: Drop>(
+// The mistake at the end of a line of which this was read, with `count` positionals: something is
+// missing, or a word is not in its list.
+fn end_mistake<'a, F, V, P, M, S>(
     options: &Options<'a, F, V, P, M, S>,
-    mut parsed: Vec<Parsed<F, V, P, M, S>>,
+    parsed: &[Parsed<F, V, P, M, S>],
     count: usize,
     seen: &[usize],
-) -> Result<Line<'a, F, V, P, M, S>, AllocError>
-    ensures { (words : List (List ℕ)) (l : List legal.Parsed) (u v : UnreadLine)
-        → ReadsUpTo (declaration_of options.now)
-        (start (declaration_of options.now).short_equals words) l u → Next u steps.end v
-        → count ≡ positional_count l → AreSeen (declaration_of options.now).options l seen.now
-        → first_asked (declaration_of options.now).options l ≡ None
-        → AreParsedAs (options_of options.now) l parsed.items
-        → AllFirst (positionals_of options.now) (positional_keys parsed.items)
-        → are_accepted (declaration_of options.now).options l ≡ true
-        → IfOk result (λ line. IsLineRead options.now words line) }
+) -> Result<Option<Mistake<'a>>, AllocError>
+    ensures { let d = declaration_of options.now in let words = parsed_words parsed.now in
+        IfOk result (λ found. count ≡ length words → IsWithin count (most d.positionals)
+        → MatchOption found (IsRight d words seen.now)
+        (λ mistake. IsWrong d words seen.now mistake)) }
 {
     if is_complete(options, count) {
-        give_keys(options.positionals(), &mut parsed);
-        Ok(Line::Parsed(parsed))
-    } else {
-        end_checked(options, parsed, count, seen)
+        return Ok(None);
+    }
+    if count < options.least() {
+        let placeholder = argument_placeholder(options.positionals(), count);
+        return Ok(Some(Mistake::MissingArgument(placeholder)));
+    }
+    if let Some(mistake) = invalid_argument(options, parsed)? {
+        return Ok(Some(mistake));
+    }
+    match missing_option(options, seen) {
+        Some(names) => Ok(Some(Mistake::MissingOption(names))),
+        None => Ok(None),
     }
 }
 
-// Reads a line by keys into a list that has room for `room` things from the start.
-fn read_keys<'a, F: Copy, V: Copy, P: Copy, M: Copy, S: Copy>(
+// ---- a line
+
+// How the reading ends at the option that was read last, which asks for this. A value joined to it
+// is a mistake.
+fn ask<'a, F, V, P, M, S>(
+    parser: &mut Parser,
+    options: &Options<'a, F, V, P, M, S>,
+    asked: Asked<'a>,
+) -> Result<Ended<'a>, AllocError>
+    ensures { let d = declaration_of options.now in IfOk result (λ ended.
+        (words : List (List ℕ)) (limit : Option ℕ) (u : UnreadLine) (count : ℕ) (seen : List ℕ)
+        (parsed : List (Parsed F V P M S)) (s : legal.Parsed)
+        → HasRead options.now limit (start d.short_equals words) u count seen parsed
+        → ReadsParsed d count u s parser.old → counts s ≡ 0 → refused_value d.options s ≡ None
+        → asked_by d.options s ≡ Some (asked_view asked.entry)
+        → HasEnded options.now words limit count seen parsed ended parser.new) }
+{
+    match parser.advance() {
+        Ok(_) => Ok(Ended::Asked(asked)),
+        Err(refused) => match refused {
+            Refusal::UnexpectedValue { option, value } => {
+                Ok(Ended::Mistake(Mistake::UnexpectedValue { option, value }))
+            }
+            Refusal::OutOfMemory => Err(AllocError),
+            Refusal::MissingValue(_) => unreachable!(),
+        },
+    }
+}
+
+// Reads a line by keys, up to one positional more than `limit`, into a list that has room for
+// `room` things from the start. This function and `refuse` are always inlined for speed: a call
+// would be handed what was read, which would then stay in memory and not in registers while the
+// line is read.
+#[inline(always)]
+pub fn read_keys<'a, F: Copy, V: Copy, P: Copy, M: Copy, S: Copy>(
     alloc: Global,
     parser: &mut Parser,
     options: &Options<'a, F, V, P, M, S>,
+    limit: Option<usize>,
     room: usize,
-) -> Result<Line<'a, F, V, P, M, S>, AllocError>
-    requires { IsLine parser.old }
-    ensures { (words : List (List ℕ))
+) -> Result<Read<'a, F, V, P, M, S>, AllocError>
+    requires line { IsLine parser.old }
+    requires within { (n : ℕ) → IsWithin n limit
+        → IsWithin n (most (declaration_of options.now).positionals) }
+    ensures { IfOk result (λ read. (words : List (List ℕ))
         → parser.old ≡ start (declaration_of options.now).short_equals words
-        → IfOk result (λ line. IsLineRead options.now words line) }
+        → HasEnded options.now words limit read.count read.seen.items read.parsed.items read.ended
+        parser.new) }
 {
-    let limit = options.most();
     let mut parsed = Vec::with_capacity(alloc, room)?;
     let mut seen = Vec::new(alloc);
     let mut count = 0usize;
-    loop {
-        match read_next(parser, options, limit, count)? {
+    let ended = loop {
+        match read_next(parser, options)? {
             Outcome::Option(index) => match read_by_key(alloc, parser, options, index)? {
                 Ok(ByKey::Parsed(own)) => {
                     parsed.push(own)?;
                     note(options, index, &mut seen)?;
                 }
-                Ok(ByKey::Asked(asked)) => return ask(parser, options, parsed, asked),
-                Err(mistake) => return Ok(stop(options, parsed, mistake)),
+                Ok(ByKey::Asked(asked)) => break ask(parser, options, asked)?,
+                Err(mistake) => break Ended::Mistake(mistake),
             },
             Outcome::Positional(word) => {
+                if is_full(limit, count) {
+                    break Ended::Positional(word);
+                }
                 let key = first_key(options.positionals());
                 parsed.push(Parsed::Positional(key, word))?;
                 count += 1;
             }
-            Outcome::End => return end(options, parsed, count, &seen),
+            Outcome::End => break Ended::End,
             Outcome::Undeclared(short) => {
-                let mistake = unknown_option(alloc, parser, options, short)?;
-                return Ok(stop(options, parsed, mistake));
+                break Ended::Mistake(unknown_option(alloc, parser, options, short)?);
             }
-            Outcome::Mistake(mistake) => return Ok(stop(options, parsed, mistake)),
+            Outcome::Unexpected(option, value) => {
+                // The option that has the value was read last.
+                let before = parsed.len().saturating_sub(1);
+                parsed.truncate(before);
+                break Ended::Mistake(Mistake::UnexpectedValue { option, value });
+            }
         }
+    };
+    Ok(Read {
+        parsed,
+        seen,
+        count,
+        ended,
+    })
+}
+
+// Refuses a line for this mistake, before which it means this.
+#[inline(always)]
+fn refuse<'a, F, V, P: Copy, M, S>(
+    options: &Options<'a, F, V, P, M, S>,
+    mut before: Vec<Parsed<F, V, P, M, S>>,
+    mistake: Mistake<'a>,
+) -> Line<'a, F, V, P, M, S>
+    ensures { (words : List (List ℕ)) → HasStopped options.now words before.items mistake.entry
+        → IsLineRead options.now words result }
+{
+    give_keys(options.positionals(), &mut before);
+    Line::Refused(Refused {
+        program: options.program(),
+        help: options.help_names(),
+        before,
+        mistake,
+    })
+}
+
+// Reads a whole line by keys.
+fn read_line<'a, F: Copy, V: Copy, P: Copy, M: Copy, S: Copy>(
+    alloc: Global,
+    options: &Options<'a, F, V, P, M, S>,
+    words: Vec<OsString>,
+) -> Result<Line<'a, F, V, P, M, S>, AllocError>
+    ensures { IfOk result (λ line. IsLineRead options.now words.items line) }
+{
+    let room = words.len().min(FIRST_ROOM);
+    let mut parser = options.parser_of(words);
+    let read = read_keys(alloc, &mut parser, options, options.most(), room)?;
+    let Read {
+        mut parsed,
+        seen,
+        count,
+        ended,
+    } = read;
+    match ended {
+        Ended::End => match end_mistake(options, &parsed, count, &seen)? {
+            Some(mistake) => Ok(refuse(options, parsed, mistake)),
+            None => {
+                give_keys(options.positionals(), &mut parsed);
+                Ok(Line::Parsed(parsed))
+            }
+        },
+        Ended::Positional(word) => Ok(refuse(options, parsed, Mistake::UnexpectedArgument(word))),
+        Ended::Asked(asked) => Ok(Line::Asked(asked)),
+        Ended::Mistake(mistake) => Ok(refuse(options, parsed, mistake)),
     }
 }
 
@@ -616,8 +602,6 @@ impl<'a, F: Copy, V: Copy, P: Copy, M: Copy, S: Copy> Options<'a, F, V, P, M, S>
         ensures answered { (l : List legal.Parsed) → Means (declaration_of self.now) words.items l
             → IfOk result (λ line. IsLineOf self.now l line) }
     {
-        let room = words.len().min(FIRST_ROOM);
-        let mut parser = self.parser_of(words);
-        read_keys(alloc, &mut parser, self, room)
+        read_line(alloc, self, words)
     }
 }

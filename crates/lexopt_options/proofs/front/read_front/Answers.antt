@@ -6,7 +6,7 @@ use Rattle.lexopt_options_spec.specs.Declaration.{table}
 use Rattle.lexopt_options_spec.specs.States.{is_further, state_at_end}
 use Rattle.lexopt_options.specs.Declarations.{declaration_of, options_of}
 use Rattle.lexopt_options.specs.States.{state_view}
-use Rattle.lexopt_options.proofs.Beginnings.{AreLegal, end_begun, lacking_begun, missing_begun, mistake_begun, rest_begun, surplus_begun, undeclared_begun}
+use Rattle.lexopt_options.proofs.Beginnings.{AreLegal, end_begun, lacking_begun, missing_begun, rest_begun, surplus_begun, undeclared_begun, unexpected_begun}
 use Rattle.lexopt_options.proofs.Fronts.{has_nothing, has_option, has_positional, index_within, option_there, same_reached, starts}
 use Rattle.lexopt_options.proofs.front.read_front.Goals as goal
 
@@ -65,7 +65,7 @@ pub returns-then-are_legal : goal.returns-then-are_legal
 returns-then-are_legal g c = λ words is.
     let d = declaration_of c.args.options.now in
     let next = rw c.in-Positional.is at c.in_ok-index.ensures in
-    rest_begun d c.loop-last.parser c.read_next.new.parser words c.loop-last.words.items c.in-Positional.word c.loop-last.seen.items c.loop-last.all_accepted c.loop-last.unasked c.loop-last.last c.loop-last.going_on c.args.options.now.sound (starts is c.loop-last.invariant) next.0
+    rest_begun d c.loop-last.parser c.read_next.new.parser words c.loop-last.words.items c.in-Positional.word c.loop-last.seen.items c.loop-last.all_accepted c.loop-last.unasked c.loop-last.last c.loop-last.going_on c.args.options.now.sound (starts is c.loop-last.invariant) next
     (sym c.most-limit.ensures ∙ c.is_full.ensures.0 c.if-is_full.true ∙ ap (λ n. Some n) (c.len.ensures ∙ c.loop-last.words.ok.0))
     (subst (λ (seen : List ℕ). AreLegal d seen c.loop-last.all_accepted c.loop-last.unasked) c.deref.ensures.value (c.are_legal.ensures.0 c.if-are_legal.true))
 
@@ -73,20 +73,20 @@ pub returns-then-is_full : goal.returns-then-is_full
 returns-then-is_full g c = λ words is.
     let d = declaration_of c.args.options.now in
     let next = rw c.in-Positional.is at c.in_ok-index.ensures in
-    surplus_begun d c.loop-last.parser c.read_next.new.parser words c.loop-last.words.items c.in-Positional.word c.loop-last.seen.items c.loop-last.all_accepted c.loop-last.unasked c.loop-last.last c.loop-last.going_on c.args.options.now.sound (starts is c.loop-last.invariant) next.0
+    surplus_begun d c.loop-last.parser c.read_next.new.parser words c.loop-last.words.items c.in-Positional.word c.loop-last.seen.items c.loop-last.all_accepted c.loop-last.unasked c.loop-last.last c.loop-last.going_on c.args.options.now.sound (starts is c.loop-last.invariant) next
     (sym c.most-limit.ensures ∙ c.is_full.ensures.0 c.if-is_full.true ∙ ap (λ n. Some n) (c.len.ensures ∙ c.loop-last.words.ok.0))
     (λ are. false≢true (sym c.if-are_legal.false ∙ c.are_legal.ensures.1 (subst (λ (seen : List ℕ). AreLegal d seen c.loop-last.all_accepted c.loop-last.unasked) (sym c.deref.ensures.value) are)))
 
 pub loop-last-smaller : goal.loop-last-smaller
 loop-last-smaller g c =
     let next = rw c.in-Positional.is at c.in_ok-index.ensures in
-    (positional_read (table (declaration_of c.args.options.now).options) c.loop-last.parser c.read_next.new.parser c.in-Positional.word next.0).1
+    (positional_read (table (declaration_of c.args.options.now).options) c.loop-last.parser c.read_next.new.parser c.in-Positional.word next).1
 
 pub loop-last-preserved : goal.loop-last-preserved
 loop-last-preserved g c =
     let next = rw c.in-Positional.is at c.in_ok-index.ensures in
     has_positional (declaration_of c.args.options.now) c.args.parser.now c.loop-last.parser c.read_next.new.parser c.loop-last.words.items c.push.new.self.items c.in-Positional.word c.loop-last.seen.items c.loop-last.all_accepted c.loop-last.unasked c.loop-last.last c.loop-last.going_on c.most-limit.result
-    c.loop-last.invariant next.0 c.most-limit.ensures (λ full. false≢true (sym c.if-is_full.false ∙ c.is_full.ensures.1 (full ∙ ap (λ n. Some n) (sym (c.len.ensures ∙ c.loop-last.words.ok.0))))) c.in_ok-push-in-Positional.ensures.items
+    c.loop-last.invariant next c.most-limit.ensures (λ full. false≢true (sym c.if-is_full.false ∙ c.is_full.ensures.1 (full ∙ ap (λ n. Some n) (sym (c.len.ensures ∙ c.loop-last.words.ok.0))))) c.in_ok-push-in-Positional.ensures.items
 
 pub returns-in-End : goal.returns-in-End
 returns-in-End g c = λ words is.
@@ -101,7 +101,7 @@ returns-in-Undeclared g c = λ words is.
     undeclared_begun (declaration_of c.args.options.now) c.loop-last.parser c.read_next.new.parser words c.loop-last.words.items c.loop-last.seen.items c.loop-last.all_accepted c.loop-last.unasked c.loop-last.last c.loop-last.going_on c.in-Undeclared.field-0 c.args.options.now.sound (starts is c.loop-last.invariant)
     (rw c.in-Undeclared.is at c.in_ok-index.ensures)
 
-pub returns-in-Mistake : goal.returns-in-Mistake
-returns-in-Mistake g c = λ words is.
-    let stops = rw c.in-Mistake.is at c.in_ok-index.ensures in
-    mistake_begun (declaration_of c.args.options.now) c.loop-last.parser words c.loop-last.words.items c.loop-last.seen.items c.loop-last.all_accepted c.loop-last.unasked c.loop-last.last c.loop-last.going_on _ c.args.options.now.sound (starts is c.loop-last.invariant) stops
+pub returns-in-Unexpected : goal.returns-in-Unexpected
+returns-in-Unexpected g c = λ words is.
+    unexpected_begun (declaration_of c.args.options.now) c.loop-last.parser c.read_next.new.parser words c.loop-last.words.items c.loop-last.seen.items c.loop-last.all_accepted c.loop-last.unasked c.loop-last.last c.loop-last.going_on _ _ c.args.options.now.sound (starts is c.loop-last.invariant)
+    (rw c.in-Unexpected.is at c.in_ok-index.ensures)

@@ -13,7 +13,7 @@ use Rattle.lexopt_options_spec.specs.Declaration as spec
 use Rattle.lexopt_declaration.specs.Models.{option_view, words_view}
 use Rattle.lexopt_options.proofs.Accepted.{first_refused, place_refused, value_accepted, value_refused, viewed}
 use Rattle.lexopt_options.proofs.Fronts.{maybe_so, taken_so, value_ends}
-use Rattle.lexopt_options.proofs.ReadKeys.{by_key, read_so, refused_so}
+use Rattle.lexopt_options.proofs.ReadKeys.{read_so, refused_so}
 use Rattle.lexopt_options.proofs.read.read_by_key.Goals as goal
 
 pub bounds-declared-index : goal.bounds-declared-index
@@ -89,9 +89,8 @@ returns-in-Value g c = λ count u name step found.
     let r = c.index-declared-index.result in
     let inside = found_within (options_of o) name c.args.index found in
     let at = subst (λ (os : List (Declared _ _ _ _)). r ≡ get_or os c.args.index r) c.options-declared.ensures.same c.index-declared-index.is in
-    by_key d count u _
-    (c.in_ok-missing_value-in-Err.ensures arity.One u c.args.parser.now name step found (kind_is (options_of o) c.args.index r (kind.Value c.in-Value.key c.in-Value.field-1) inside at c.in-Value.is)
-    (value_ends c.args.parser.now c.take.new.self c.take.result c.in-Err.refused c.in-Err.is c.take.ensures))
+    c.in_ok-missing_value-in-Err.ensures arity.One u c.args.parser.now name step found (kind_is (options_of o) c.args.index r (kind.Value c.in-Value.key c.in-Value.field-1) inside at c.in-Value.is)
+    (value_ends c.args.parser.now c.take.new.self c.take.result c.in-Err.refused c.in-Err.is c.take.ensures)
 
 pub returns-then-accepts-2 : goal.returns-then-accepts-2
 returns-then-accepts-2 g c = λ count u name step found.
@@ -180,5 +179,4 @@ returns g c = λ count u name step found.
     let r = c.index-declared-index.result in
     let inside = found_within (options_of o) name c.args.index found in
     let at = subst (λ (os : List (Declared _ _ _ _)). r ≡ get_or os c.args.index r) c.options-declared.ensures.same c.index-declared-index.is in
-    by_key (declaration_of o) count u _
-    (c.in_ok-missing_value-in-Err-read_several.ensures arity.Several u c.args.parser.now name step found (kind_is (options_of o) c.args.index r (kind.Values c.in-Values.key c.in-Values.field-1) inside at c.in-Values.is) c.in-Err-read_several.ensures.err)
+    c.in_ok-missing_value-in-Err-read_several.ensures arity.Several u c.args.parser.now name step found (kind_is (options_of o) c.args.index r (kind.Values c.in-Values.key c.in-Values.field-1) inside at c.in-Values.is) c.in-Err-read_several.ensures.err

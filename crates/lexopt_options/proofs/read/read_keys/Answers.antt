@@ -1,105 +1,106 @@
-use Rattle.std.proofs.Common.{◌≡◌, ◌≤◌, ◌++◌, ◌∷◌, ◌∙◌, [], List, Ok, ap, arith, length, subst, sym, ℕ}
+use Rattle.std.proofs.Common.{◌+◌, ◌-◌, ◌≡◌, ◌≤◌, ◌∙◌, Ok, ap, arith, length, refl, string_bytes, subst, sym}
+use Rattle.std.proofs.lemmas.Bool.{false≢true}
 use Rattle.std.proofs.lemmas.List.{length-map}
-use Rattle.lexopt_spec.specs.UnreadLine.{UnreadLine}
 use Rattle.lexopt_declaration.specs.Models.{positional_view}
-use Rattle.lexopt_options_spec.specs.Legal.{IsWithin, most}
+use Rattle.lexopt_options_spec.specs.Asking.{all_but_last}
+use Rattle.lexopt_options_spec.specs.Legal.{IsWithin}
+use Rattle.lexopt_options_spec.specs.Stops as stops
 use Rattle.lexopt_options_spec.specs.Stops.{ReadsUpTo}
 use Rattle.lexopt_options.specs.declared.parsed.ByKey.TheVariants as told
-use Rattle.lexopt_options.specs.Declarations.{declaration_of}
-use Rattle.lexopt_options.specs.Keys.{HasKey}
-use Rattle.lexopt_options.specs.Reading.{AreSeen}
-use Rattle.lexopt_options_spec.proofs.Listed.{accepted_append}
-use Rattle.lexopt_options.proofs.ReadKeys.{at_start, count_within, has_option, has_positional, one_unrefused}
-use Rattle.lexopt_options.proofs.ReadNext.{by_room, has_room, one_more}
-use Rattle.lexopt_options.proofs.WholeLines.{line_stopped}
+use Rattle.lexopt_options.specs.Declarations.{declaration_of, options_of, positionals_of}
+use Rattle.lexopt_options.specs.Keys.{AllFirst, AreParsedAs, HasKey, positional_keys}
+use Rattle.lexopt_options.proofs.Keys.{none_before}
+use Rattle.lexopt_options.proofs.KeysGiven.{first_kept}
+use Rattle.lexopt_options.proofs.ReadKeys.{at_start, count_within, has_option, has_positional, starts, stopped_there}
+use Rattle.lexopt_options.proofs.ReadNext.{has_room, more_within, positional_parsed}
+use Rattle.lexopt_options.proofs.WholeLines.{kept_parsed}
 use Rattle.lexopt_options.proofs.read.read_keys.Goals as goal
+use Rattle.lexopt_options.proofs.read.read_keys.Goals.{in-Option+in_ok-own-in-Option+in-Ok-Asked+in_ok-ended-in-Ok-Asked, in-Option+in_ok-own-in-Option+in-Err, in-Positional+then-is_full, in-End, in-Undeclared+in_ok-unknown_option-in-Undeclared, in-Unexpected}
 
 pub loop-seen-init : goal.loop-seen-init
-loop-seen-init g c = at_start c.args.options.now c.args.parser.now c.requires c.in_ok-parsed.ensures.items c.new-seen.ensures.items
+loop-seen-init g c = at_start c.args.options.now c.args.limit c.args.parser.now c.requires.line c.in_ok-parsed.ensures.items c.new-seen.ensures.items
 
 pub overflow_add-count : goal.overflow_add-count
 overflow_add-count g c =
-    let small = count_within c.args.options.now c.args.parser.now c.loop-seen.parser c.loop-seen.count c.loop-seen.seen.items c.loop-seen.parsed.items c.loop-seen.invariant in
+    let small = count_within c.args.options.now c.args.limit c.args.parser.now c.loop-seen.parser c.loop-seen.count c.loop-seen.seen.items c.loop-seen.parsed.items c.loop-seen.invariant in
     omega (arith, small, c.loop-seen.parsed.small)
 
-pub loop-seen-smaller-in-Continue-branch-8 : goal.loop-seen-smaller-in-Continue-branch-8
-loop-seen-smaller-in-Continue-branch-8 g c =
+pub loop-seen-smaller-in_ok-note-in-Ok-Parsed : goal.loop-seen-smaller-in_ok-note-in-Ok-Parsed
+loop-seen-smaller-in_ok-note-in-Ok-Parsed g c =
     let next = rw c.in-Option.is at c.in_ok-index.ensures in
     let is : c.in_ok-own-in-Option.field-0 ≡ Ok (told.Parsed c.in-Ok-Parsed.own) = c.in-Ok-Parsed.is ∙ ap Ok c.in-Ok-Parsed.field-0-is in
     let read = rw is at c.in_ok-own-in-Option.ensures c.loop-seen.count c.loop-seen.parser next.0 next.1 next.2 in
     read.1.shorter
 
-pub loop-seen-preserved-in-Continue-branch-8 : goal.loop-seen-preserved-in-Continue-branch-8
-loop-seen-preserved-in-Continue-branch-8 g c =
+pub loop-seen-preserved-in_ok-note-in-Ok-Parsed : goal.loop-seen-preserved-in_ok-note-in-Ok-Parsed
+loop-seen-preserved-in_ok-note-in-Ok-Parsed g c =
     let o = c.args.options.now in
     let next = rw c.in-Option.is at c.in_ok-index.ensures in
     let is : c.in_ok-own-in-Option.field-0 ≡ Ok (told.Parsed c.in-Ok-Parsed.own) = c.in-Ok-Parsed.is ∙ ap Ok c.in-Ok-Parsed.field-0-is in
     let read = rw is at c.in_ok-own-in-Option.ensures c.loop-seen.count c.loop-seen.parser next.0 next.1 next.2 in
-    has_option o c.args.parser.now c.loop-seen.parser c.read_by_key.new.parser c.loop-seen.count c.in-Option.index c.loop-seen.seen.items c.note.new.seen.items c.loop-seen.parsed.items c.push.new.self.items read.0 c.in-Ok-Parsed.own
+    has_option o c.args.limit c.args.parser.now c.loop-seen.parser c.read_by_key.new.parser c.loop-seen.count c.in-Option.index c.loop-seen.seen.items c.note.new.seen.items c.loop-seen.parsed.items c.push.new.self.items read.0 c.in-Ok-Parsed.own
     c.loop-seen.invariant read.1 read.2.0 read.2.1 read.3 read.4 read.5
     c.in_ok-note-in-Ok-Parsed.ensures c.in_ok-push-in-Ok-Parsed.ensures.items
 
-pub returns-in-Ok-Asked : goal.returns-in-Ok-Asked
-returns-in-Ok-Asked g c = λ words is_start.
-    let d = declaration_of c.args.options.now in
-    let had = c.loop-seen.invariant in
-    let next = rw c.in-Option.is at c.in_ok-index.ensures in
-    let is : c.in_ok-own-in-Option.field-0 ≡ Ok (told.Asked c.in-Ok-Asked.asked) = c.in-Ok-Asked.is ∙ ap Ok c.in-Ok-Asked.field-0-is in
-    let read = rw is at c.in_ok-own-in-Option.ensures c.loop-seen.count c.loop-seen.parser next.0 next.1 next.2 in
-    c.ask.ensures words had.l read.0
-    (subst (λ (u : UnreadLine). ReadsUpTo d u (had.l ++ read.0 ∷ []) c.read_by_key.new.parser) is_start (one_more d c.args.parser.now c.loop-seen.parser c.read_by_key.new.parser had.l c.loop-seen.count read.0 had.read had.counted read.1))
-    had.none read.2 had.are had.firsts (accepted_append d.options had.l (read.0 ∷ []) had.accepted (one_unrefused d.options read.0 read.5))
-
-pub returns-in-Err : goal.returns-in-Err
-returns-in-Err g c = λ words is.
-    let d = declaration_of c.args.options.now in
-    let had = c.loop-seen.invariant in
-    let next = rw c.in-Option.is at c.in_ok-index.ensures in
-    let stops = rw c.in-Err.is at c.in_ok-own-in-Option.ensures c.loop-seen.count c.loop-seen.parser next.0 next.1 next.2 in
-    c.stop.ensures words stops.why had.l stops.told (line_stopped d words had.l c.args.parser.now c.loop-seen.parser c.loop-seen.count stops.why is had.read had.counted (λ m counted. stops.stops m had.read.line counted) had.accepted)
-    had.none had.are had.firsts
-
 pub first_key-key-requires : goal.first_key-key-requires
 first_key-key-requires g c =
-    let d = declaration_of c.args.options.now in
-    let had = c.loop-seen.invariant in
-    let next = rw c.in-Positional.is at c.in_ok-index.ensures in
-    let some = has_room d.positionals c.most-limit.result c.loop-seen.count c.most-limit.ensures (subst (λ n. IsWithin n (most d.positionals)) (sym had.counted) had.read.within) next.1 in
-    subst (λ n. 1 ≤ n) (sym (ap length c.positionals.ensures.view) ∙ length-map c.positionals.result.now positional_view) some
+    let o = c.args.options.now in
+    let room = c.requires.within (c.loop-seen.count + 1) (more_within c.loop-seen.count c.args.limit (λ full. false≢true (sym c.if-is_full.false ∙ c.is_full.ensures.1 full)) c.loop-seen.invariant.limited) in
+    subst (λ n. 1 ≤ n) (sym (ap length c.positionals.ensures.view) ∙ length-map c.positionals.result.now positional_view) (has_room (declaration_of o).positionals c.loop-seen.count room)
 
 pub loop-seen-smaller : goal.loop-seen-smaller
 loop-seen-smaller g c =
-    let d = declaration_of c.args.options.now in
-    let next = rw c.in-Positional.is at c.in_ok-index.ensures in
-    (by_room d c.most-limit.result c.loop-seen.count c.loop-seen.parser c.read_next.new.parser c.in-Positional.word c.most-limit.ensures next).shorter
+    let room = c.requires.within (c.loop-seen.count + 1) (more_within c.loop-seen.count c.args.limit (λ full. false≢true (sym c.if-is_full.false ∙ c.is_full.ensures.1 full)) c.loop-seen.invariant.limited) in
+    (positional_parsed (declaration_of c.args.options.now) c.loop-seen.count c.loop-seen.parser c.read_next.new.parser c.in-Positional.word room (rw c.in-Positional.is at c.in_ok-index.ensures)).shorter
 
 pub loop-seen-preserved : goal.loop-seen-preserved
 loop-seen-preserved g c =
     let o = c.args.options.now in
+    let more = more_within c.loop-seen.count c.args.limit (λ full. false≢true (sym c.if-is_full.false ∙ c.is_full.ensures.1 full)) c.loop-seen.invariant.limited in
+    has_positional o c.args.limit c.args.parser.now c.loop-seen.parser c.read_next.new.parser c.loop-seen.count c.loop-seen.seen.items c.loop-seen.parsed.items c.push-in-Positional.new.self.items c.in-Positional.word c.first_key-key.result
+    c.loop-seen.invariant more
+    (positional_parsed (declaration_of o) c.loop-seen.count c.loop-seen.parser c.read_next.new.parser c.in-Positional.word (c.requires.within (c.loop-seen.count + 1) more) (rw c.in-Positional.is at c.in_ok-index.ensures))
+    (subst (λ ps. HasKey ps 0 c.first_key-key.result) c.positionals.ensures.same c.first_key-key.ensures) c.in_ok-push-in-Positional.ensures.items
+
+pub returns : goal.returns
+returns g c = λ words is.
+    let o = c.args.options.now in
     let d = declaration_of o in
-    let next = rw c.in-Positional.is at c.in_ok-index.ensures in
-    let reads = by_room d c.most-limit.result c.loop-seen.count c.loop-seen.parser c.read_next.new.parser c.in-Positional.word c.most-limit.ensures next in
-    has_positional o c.args.parser.now c.loop-seen.parser c.read_next.new.parser c.loop-seen.count c.loop-seen.seen.items c.loop-seen.parsed.items c.push-in-Positional.new.self.items c.in-Positional.word c.first_key-key.result
-    c.loop-seen.invariant reads (subst (λ ps. HasKey ps 0 c.first_key-key.result) c.positionals.ensures.same c.first_key-key.ensures) c.in_ok-push-in-Positional.ensures.items
-
-pub returns-in-End : goal.returns-in-End
-returns-in-End g c = λ words is.
-    let d = declaration_of c.args.options.now in
-    let had = c.loop-seen.invariant in
-    let ends = rw c.in-End.is at c.in_ok-index.ensures in
-    c.end.ensures words had.l c.loop-seen.parser c.read_next.new.parser (subst (λ (u : UnreadLine). ReadsUpTo d u had.l c.loop-seen.parser) is had.read) ends had.counted
-    (subst (λ (l : List ℕ). AreSeen d.options had.l l) (sym c.deref.ensures.value) had.are_seen) had.none had.are had.firsts had.accepted
-
-pub returns-in-Undeclared : goal.returns-in-Undeclared
-returns-in-Undeclared g c = λ words is.
-    let d = declaration_of c.args.options.now in
-    let had = c.loop-seen.invariant in
-    let stops = c.in_ok-mistake-in-Undeclared.ensures c.loop-seen.parser (rw c.in-Undeclared.is at c.in_ok-index.ensures) in
-    c.stop-in-Undeclared.ensures words stops.why had.l stops.told (line_stopped d words had.l c.args.parser.now c.loop-seen.parser c.loop-seen.count stops.why is had.read had.counted (λ m counted. stops.stops m) had.accepted) had.none had.are had.firsts
-
-pub returns-in-Mistake : goal.returns-in-Mistake
-returns-in-Mistake g c = λ words is.
-    let d = declaration_of c.args.options.now in
-    let had = c.loop-seen.invariant in
-    let stops = rw c.in-Mistake.is at c.in_ok-index.ensures in
-    c.stop-in-Mistake.ensures words stops.why had.l stops.told (line_stopped d words had.l c.args.parser.now c.loop-seen.parser c.loop-seen.count stops.why is had.read had.counted (λ l counted. stops.stops l c.most-limit.ensures counted) had.accepted) had.none had.are had.firsts
+    let had = starts is c.loop-seen.invariant in
+    elim c.match-branch-3.branch [
+      | in-Option+in_ok-own-in-Option+in-Ok-Asked+in_ok-ended-in-Ok-Asked w ↦
+          let next = rw w.in-Option.is at c.in_ok-index.ensures in
+          let is : w.in_ok-own-in-Option.field-0 ≡ Ok (told.Asked w.in-Ok-Asked.asked) = w.in-Ok-Asked.is ∙ ap Ok w.in-Ok-Asked.field-0-is in
+          let read = rw is at w.in_ok-own-in-Option.ensures c.loop-seen.count c.loop-seen.parser next.0 next.1 next.2 in
+          rw w.ended-is (rw w.parsed-is (rw w.parser-is
+          (w.in_ok-ended-in-Ok-Asked.ensures words c.args.limit c.loop-seen.parser c.loop-seen.count c.loop-seen.seen.items c.loop-seen.parsed.items read.0 had read.1 read.3 read.5 read.2)))
+      | in-Option+in_ok-own-in-Option+in-Err w ↦
+          let next = rw w.in-Option.is at c.in_ok-index.ensures in
+          rw w.ended-is (rw w.parsed-is
+          (stopped_there o c.args.limit words c.loop-seen.parser c.loop-seen.count c.loop-seen.seen.items c.loop-seen.parsed.items _ had
+          (rw w.in-Err.is at w.in_ok-own-in-Option.ensures c.loop-seen.count c.loop-seen.parser next.0 next.1 next.2)))
+      | in-Positional+then-is_full w ↦
+          rw w.ended-is (rw w.parsed-is (rw w.parser-is
+          (c.loop-seen.parser, had, (rw w.in-Positional.is at c.in_ok-index.ensures), w.is_full.ensures.0 w.if-is_full.true)))
+      | in-End w ↦ rw w.ended-is (rw w.parsed-is (rw w.parser-is (c.loop-seen.parser, had, (rw w.in-End.is at c.in_ok-index.ensures))))
+      | in-Undeclared+in_ok-unknown_option-in-Undeclared w ↦
+          rw w.ended-is (rw w.parsed-is
+          (stopped_there o c.args.limit words c.loop-seen.parser c.loop-seen.count c.loop-seen.seen.items c.loop-seen.parsed.items _ had
+          (w.in_ok-unknown_option-in-Undeclared.ensures c.loop-seen.parser (rw w.in-Undeclared.is at c.in_ok-index.ensures))))
+      | in-Unexpected w ↦
+          let step = rw w.in-Unexpected.is at c.in_ok-index.ensures in
+          rw w.ended-is (rw w.parsed-is (
+            record {
+              why = stops.unexpected_value (string_bytes w.in-Unexpected.option) w.in-Unexpected.value;
+              told = refl;
+              read = had.l;
+              stops = record { there = c.loop-seen.parser; read = had.read; stops = stops.value_of_flag _ _ c.read_next.new.parser step; accepted = had.accepted };
+              own = none_before d.options had.l had.none;
+              before = subst (λ xs. AreParsedAs (options_of o) (all_but_last had.l) xs) (sym w.truncate.ensures.items)
+                  (kept_parsed (options_of o) had.l c.loop-seen.parsed.items w.saturating_sub-before.result (w.saturating_sub-before.ensures ∙ ap (λ k. k - 1) (w.len.ensures ∙ c.loop-seen.parsed.ok.0)) had.are);
+              firsts = subst (λ xs. AllFirst (positionals_of o) (positional_keys xs)) (sym w.truncate.ensures.items) (first_kept (positionals_of o) w.saturating_sub-before.result c.loop-seen.parsed.items had.firsts);
+            },
+            tt,
+            subst (λ n. IsWithin n c.args.limit) had.counted had.limited,
+          ))
+    ]

@@ -1,9 +1,6 @@
-use Rattle.std.proofs.Common.{◌≡◌, ◌∙◌, Ok, Err, Some, None, string_bytes, refl, sym, ap}
-use Rattle.std.proofs.lemmas.Bool.{false≢true}
+use Rattle.std.proofs.Common.{◌≡◌, ◌∙◌, Ok, Err, sym, ap}
 use Rattle.lexopt_line_spec.specs.Table.{long, short}
 use Rattle.lexopt_options_spec.specs.Declaration.{index_of}
-use Rattle.lexopt_options_spec.specs.Stops as stops
-use Rattle.lexopt_options_spec.specs.Stops.{Stops}
 use Rattle.lexopt_base.specs.declared.parser.Found.TheVariants as found
 use Rattle.lexopt_base.specs.declared.refusal.Refusal.TheVariants as refused
 use Rattle.lexopt_base.proofs.Refusals.{named}
@@ -33,20 +30,10 @@ returns-in-None-index_of_long g c =
     undeclared_long (declaration_of c.args.options.now) _ _ c.long_name.result.now (answered _ _ _ _ c.advance.ensures is) c.long_name.ensures
     (sym c.index_of_long.ensures ∙ c.in-None-index_of_long.is)
 
-pub returns-then-is_full : goal.returns-then-is_full
-returns-then-is_full g c =
+pub returns-in-Ok-Value : goal.returns-in-Ok-Value
+returns-in-Ok-Value g c =
     let is : c.advance.result ≡ Ok (found.Value c.in-Ok-Value.word) = c.in-Ok-Value.is ∙ ap Ok c.in-Ok-Value.field-0-is in
-    record {
-      why = stops.unexpected_argument c.in-Ok-Value.word;
-      told = refl;
-      stops = λ l most_is counted. stops.one_too_many c.in-Ok-Value.word c.advance.new.self (answered _ _ _ _ c.advance.ensures is) (sym most_is ∙ c.is_full.ensures.0 c.if-is_full.true ∙ ap Some counted);
-      of_option = λ none. absurd (let e : None ≡ Some c.args.count = sym none ∙ c.is_full.ensures.0 c.if-is_full.true in cc);
-    }
-
-pub returns-else-is_full : goal.returns-else-is_full
-returns-else-is_full g c =
-    let is : c.advance.result ≡ Ok (found.Value c.in-Ok-Value.word) = c.in-Ok-Value.is ∙ ap Ok c.in-Ok-Value.field-0-is in
-    (answered _ _ _ _ c.advance.ensures is, λ full. false≢true (sym c.if-is_full.false ∙ c.is_full.ensures.1 full))
+    answered _ _ _ _ c.advance.ensures is
 
 pub returns-in-Ok-End : goal.returns-in-Ok-End
 returns-in-Ok-End g c =
@@ -56,14 +43,7 @@ returns-in-Ok-End g c =
 pub returns-in-UnexpectedValue : goal.returns-in-UnexpectedValue
 returns-in-UnexpectedValue g c =
     let is : c.advance.result ≡ Err (refused.UnexpectedValue c.in-UnexpectedValue.option c.in-UnexpectedValue.value) = c.in-Err.is ∙ ap Err c.in-UnexpectedValue.is in
-    record {
-      why = stops.unexpected_value (string_bytes c.in-UnexpectedValue.option) c.in-UnexpectedValue.value;
-      told = refl;
-      stops = λ l most_is counted. stops.value_of_flag (string_bytes c.in-UnexpectedValue.option) c.in-UnexpectedValue.value c.advance.new.self (answered _ _ _ _ c.advance.ensures is);
-      of_option = λ none.
-          let next = answered _ _ _ _ c.advance.ensures is in
-          (tt, (λ l. stops.value_of_flag (string_bytes c.in-UnexpectedValue.option) c.in-UnexpectedValue.value c.advance.new.self next), string_bytes c.in-UnexpectedValue.option, c.in-UnexpectedValue.value, c.advance.new.self, next);
-    }
+    answered _ _ _ _ c.advance.ensures is
 
 pub unreachable-requires : goal.unreachable-requires
 unreachable-requires g c =

@@ -6,17 +6,17 @@ use Rattle.lexopt_options.proofs.KeysGiven.{can_have_before}
 use Rattle.lexopt_options.proofs.read.refuse.Goals as goal
 
 pub returns : goal.returns
-returns g c = λ words why l told stops none are first.
+returns g c = λ words stopped.
     let o = c.args.options.now in
     record {
       program = c.program.ensures;
       help = c.help_names.ensures;
-      why = why;
-      told = told;
-      read = l;
-      stops = stops;
-      own = none;
-      before = c.give_keys.ensures.same (options_of o) (parsed_before why l) are;
+      why = stopped.why;
+      told = stopped.told;
+      read = stopped.read;
+      stops = stopped.stops;
+      own = stopped.own;
+      before = c.give_keys.ensures.same (options_of o) (parsed_before stopped.why stopped.read) stopped.before;
       keys = subst (λ ps. HaveKeys ps c.give_keys.new.parsed.items) c.positionals.ensures.same
-          (c.give_keys.ensures.keys (subst (λ ps. CanHaveKeys ps c.args.before.items) (sym c.positionals.ensures.same) (can_have_before o l why c.args.before.items stops.read.within are first)));
+          (c.give_keys.ensures.keys (subst (λ ps. CanHaveKeys ps c.args.before.items) (sym c.positionals.ensures.same) (can_have_before o stopped.read stopped.why c.args.before.items stopped.stops.read.within stopped.before stopped.firsts)));
     }

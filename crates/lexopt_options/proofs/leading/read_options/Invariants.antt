@@ -1,9 +1,0 @@
-use Rattle.lexopt_line_spec.specs.Bound.{bound}
-use Rattle.lexopt_options.proofs.ReadKeys.{HasRead}
-use Rattle.lexopt_options.proofs.leading.read_options.Given as goal
-
-abbrev pub invariant-loop-seen : goal.invariant-loop-seen
-invariant-loop-seen g l = HasRead l.options l.initial.parser l.parser 0 l.seen.items l.parsed.items
-
-abbrev pub decreases-loop-seen : goal.decreases-loop-seen
-decreases-loop-seen g l = bound l.parser
