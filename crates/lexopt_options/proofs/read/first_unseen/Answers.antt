@@ -28,4 +28,4 @@ loop-index-preserved g c = below_more _ _ c.loop-index.invariant (λ needed.
     ])
 
 pub returns : goal.returns
-returns g c = λ i needed. c.loop-index.invariant i (omega (arith, required_within c.args.options.now i needed, c.loop-index-test.false)) needed
+returns g c = λ i needed. c.loop-index.invariant i (grind (arith, required_within c.args.options.now i needed)) needed
