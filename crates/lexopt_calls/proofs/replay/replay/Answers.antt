@@ -1,4 +1,4 @@
-use Rattle.std.proofs.Common.{List, map, get_or, refl, sym, ap, subst, ◌∙◌}
+use Rattle.std.proofs.Common.{List, arith, map, get_or, refl, sym, ap, subst, ◌∙◌}
 use Rattle.std.proofs.lemmas.List.{map-append, take_all, take_more}
 use Rattle.lexopt_spec.specs.Steps.{Reply}
 use Rattle.lexopt_spec.specs.Runs as runs
@@ -46,7 +46,7 @@ returns-in_err-push-clause-words_left c =
 pub returns-clause-run : goal.returns-clause-run
 returns-clause-run c =
     subst (λ calls. Run c.args.parser.now (map call_view calls) (map reply_view c.loop-call.replies.items) c.loop-call.parser)
-    (take_all c.loop-call.call-index c.args.calls.now c.loop-call-test.false) c.loop-call.invariant
+    (take_all c.loop-call.call-index c.args.calls.now (grind arith)) c.loop-call.invariant
 
 pub returns-clause-account : goal.returns-clause-account
 returns-clause-account c =
