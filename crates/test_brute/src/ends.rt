@@ -1,6 +1,6 @@
 //! The end of a line: what is missing, what is asked for, and to which positional each word
 //! belongs.
-use crate::plain::{Item, Place, Plan, PlanWord, Typed, text_of};
+use crate::plain::{Item, Place, Plan, Typed};
 use lexopt_options::{Asked, Count, Kind, Names, Words};
 use std::alloc::{AllocError, Global};
 
@@ -42,17 +42,17 @@ fn missing_option(plan: &'static Plan, items: &[Item<'_>]) -> Option<Names<'stat
     None
 }
 
-/// The text of an option in messages, by its names.
-pub fn name_of(alloc: Global, names: Names<'_>) -> Result<String, AllocError> {
+/// The name by which messages show an option that has these names.
+pub fn name_of<'w>(names: Names<'w>) -> Typed<'w> {
     match names {
-        Names::Short(character) => text_of(alloc, Typed::Short(character)),
-        Names::Long(name) | Names::Both(_, name) => text_of(alloc, Typed::Long(name)),
+        Names::Short(character) => Typed::Short(character),
+        Names::Long(name) | Names::Both(_, name) => Typed::Long(name),
     }
 }
 
-// The words that a positional accepts, if it has a list.
-fn list_of(own: &PlanWord) -> Option<&'static [&'static str]> {
-    match own.words {
+/// The words that an option or a positional accepts, if it has a list.
+pub fn list_of(words: Words<'static>) -> Option<&'static [&'static str]> {
+    match words {
         Words::Listed(values) => Some(values),
         _ => None,
     }
@@ -66,8 +66,8 @@ fn unlisted_word(
     word: &str,
 ) -> Result<Option<String>, AllocError> {
     for own in plan.positionals {
-        if let (true, Some(list)) = (own.key == place, list_of(own)) {
-            if !list.iter().any(|value| *value == word) {
+        if let (true, Some(list)) = (own.key == place, list_of(own.words)) {
+            if !list.contains(&word) {
                 let placeholder = own.placeholder;
                 let list = list.join(alloc, ", ")?;
                 return Ok(Some(format!(in alloc;
@@ -98,8 +98,21 @@ fn first_unlisted_word(
     Ok(None)
 }
 
+// Whether the word after `count` others can belong to the positional with this key, with or without
+// more words after it.
+fn can_own(alloc: Global, plan: &Plan, count: usize, key: Place) -> Result<bool, AllocError> {
+    for more in 1..7usize {
+        let whole = count.saturating_add(more);
+        let places = places_of(alloc, plan, whole)?;
+        if places.len() == whole && places.get(count) == Some(&key) {
+            return Ok(true);
+        }
+    }
+    Ok(false)
+}
+
 /// The places in the declaration of the positionals to which the word after `count` others can
-/// belong, with or without more words after it; and the words in their lists.
+/// belong; and the words in their lists.
 pub fn owners_after(
     alloc: Global,
     plan: &'static Plan,
@@ -108,17 +121,9 @@ pub fn owners_after(
     let mut owners = Vec::new(alloc);
     let mut words = Vec::new(alloc);
     for (place, own) in plan.positionals.iter().enumerate() {
-        let mut can_own = false;
-        for more in 0..6usize {
-            let whole = count.saturating_add(1).saturating_add(more);
-            let places = places_of(alloc, plan, whole)?;
-            can_own |= places.len() == whole && places.get(count) == Some(&own.key);
-        }
-        if can_own {
+        if can_own(alloc, plan, count, own.key)? {
             owners.push(place)?;
-            for word in list_of(own).unwrap_or(&[]) {
-                words.push(*word)?;
-            }
+            words.extend_from_slice(list_of(own.words).unwrap_or(&[]))?;
         }
     }
     Ok((owners, words))
@@ -139,7 +144,7 @@ pub fn missing(
     let Some(names) = missing_option(plan, items) else {
         return Ok(None);
     };
-    let option = name_of(alloc, names)?;
+    let option = name_of(names);
     Ok(Some(format!(in alloc; "missing option '{option}'")?))
 }
 
@@ -157,32 +162,23 @@ pub fn asked(plan: &Plan, items: &[Item<'_>]) -> Option<Asked<'static>> {
     None
 }
 
-// Whether one more word can belong to a positional that has this many words.
-fn has_room(count: Count, taken: usize) -> bool {
-    may_repeat(count) || taken == 0
-}
-
 /// The key of each of `count` words, in order. Each required positional has a word, even if the
 /// word is missing, and the other words belong to the first positional that can take more.
 pub fn places_of(alloc: Global, plan: &Plan, count: usize) -> Result<Vec<Place>, AllocError> {
-    let mut taken = Vec::new(alloc);
+    let mut places = Vec::new(alloc);
     let mut left = count;
     for own in plan.positionals {
+        left = left.saturating_sub(usize::from(is_required(own.count)));
+    }
+    for own in plan.positionals {
         let needed = usize::from(is_required(own.count));
-        taken.push(needed)?;
-        left = left.saturating_sub(needed);
-    }
-    for (own, taken) in plan.positionals.iter().zip(taken.iter_mut()) {
-        for _ in 0..left {
-            if has_room(own.count, *taken) {
-                *taken = taken.saturating_add(1);
-                left = left.saturating_sub(1);
-            }
-        }
-    }
-    let mut places = Vec::new(alloc);
-    for (own, taken) in plan.positionals.iter().zip(&taken) {
-        for _ in 0..*taken {
+        let more = if may_repeat(own.count) {
+            left
+        } else {
+            left.min(usize::from(needed == 0))
+        };
+        left = left.saturating_sub(more);
+        for _ in 0..needed.saturating_add(more) {
             places.push(own.key)?;
         }
     }

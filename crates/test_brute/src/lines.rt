@@ -5,6 +5,7 @@ use crate::plans::{WORDS, plans};
 use crate::words_of;
 use lexopt_options::{Declared, Kind, Line, Options, OsString, Parsed};
 use std::alloc::{AllocError, Global};
+use std::slice;
 use test_helpers::lists::{list_of, numbers_of};
 
 type KeyOptions = Options<'static, Key, Key, Place, Key, Key>;
@@ -29,11 +30,10 @@ fn is_option(option: &KeyOption, values: &[&str], parsed: &KeyParsed) -> bool {
     match (option.kind, parsed) {
         (Kind::Flag(key), Parsed::Flag(found)) => key == *found && values.is_empty(),
         (Kind::Value(key, _), Parsed::Value(found, word)) => {
-            key == *found && values.len() == 1 && values[0].as_bytes() == word.as_bytes()
+            key == *found && are_values(values, slice::from_ref(word))
         }
-        (Kind::Maybe(key, _), Parsed::Maybe(found, None)) => key == *found && values.is_empty(),
-        (Kind::Maybe(key, _), Parsed::Maybe(found, Some(word))) => {
-            key == *found && values.len() == 1 && values[0].as_bytes() == word.as_bytes()
+        (Kind::Maybe(key, _), Parsed::Maybe(found, word)) => {
+            key == *found && are_values(values, word.as_slice())
         }
         (Kind::Values(key, _), Parsed::Values(found, words)) => {
             key == *found && are_values(values, words)
@@ -83,10 +83,7 @@ fn is_line(
     reading: &Reading<'_>,
     line: &KeyLine,
 ) -> Result<bool, AllocError> {
-    let mistake = match &reading.mistake {
-        Some(mistake) => Some(mistake),
-        None => reading.missing.as_ref(),
-    };
+    let mistake = reading.mistake.as_ref().or(reading.missing.as_ref());
     match (asked(plan, &reading.items), mistake, line) {
         (Some(wanted), _, Line::Asked(found)) => Ok(wanted == *found),
         (None, None, Line::Parsed(parsed)) => are_items(alloc, plan, &reading.items, parsed),
@@ -100,38 +97,43 @@ fn is_line(
     }
 }
 
-// How many lines agree, up to the first that does not.
-fn lines_that_agree(
+// Whether they agree on the line of these words.
+fn agree(
     alloc: Global,
     plan: &'static Plan,
     options: &KeyOptions,
-) -> Result<usize, AllocError> {
-    let mut lines = 0usize;
-    for number in 0..numbers_of(WORDS.len()) {
-        if let Some(words) = list_of(alloc, &WORDS, number)? {
-            let line = options.read(alloc, words_of(alloc, &words)?)?;
-            if !is_line(alloc, plan, &read(alloc, plan, &words)?, &line)? {
-                break;
-            }
-            lines = lines.saturating_add(1);
-        }
-    }
-    Ok(lines)
+    words: &[&'static str],
+) -> Result<bool, AllocError> {
+    let reading = read(alloc, plan, words)?;
+    let line = options.read(alloc, words_of(alloc, words)?)?;
+    is_line(alloc, plan, &reading, &line)
 }
 
-// How many lines agree under this declaration; 0 if it cannot be declared.
-fn count_lines(alloc: Global, plan: &'static Plan) -> Result<usize, AllocError> {
-    match Options::try_new(plan) {
-        Ok(options) => lines_that_agree(alloc, plan, &options),
-        Err(_) => Ok(0),
+// How many lines agree under this declaration, up to the first that does not.
+fn lines_that_agree(alloc: Global, plan: &'static Plan) -> usize {
+    let mut lines = 0usize;
+    if let Ok(options) = Options::try_new(plan) {
+        for number in 0..numbers_of(WORDS.len()) {
+            if let Ok(Some(words)) = list_of(alloc, &WORDS, number) {
+                if !matches!(agree(alloc, plan, &options, &words), Ok(true)) {
+                    break;
+                }
+                lines = lines.saturating_add(1);
+            }
+        }
     }
+    lines
 }
 
 // All lists of at most three of the words: 1 + 13 + 169 + 2197.
 #[test]
 fn lines(rt: HostRuntime) {
     for plan in plans() {
-        let lines = count_lines(rt.alloc(), plan).expect(&rt, "memory");
-        assert_eq!(rt; lines, 2_380, "{}", plan.program);
+        assert_eq!(rt;
+            lines_that_agree(rt.alloc(), plan),
+            2_380,
+            "{}",
+            plan.program
+        );
     }
 }

@@ -1,9 +1,10 @@
 //! A plain reader of declared options, written from the rules alone. It uses the declaration, and
 //! calls nothing of the library. It reads words of ASCII, without `=` in a cluster and without
 //! characters that messages escape, and it gives no hints.
-use crate::ends::{count_of, may_repeat, missing, name_of};
-use lexopt_options::{Declaration, Kind, Names, Positional, Words};
+use crate::ends::{count_of, list_of, may_repeat, missing, name_of};
+use lexopt_options::{Declaration, Kind, Names};
 use std::alloc::{AllocError, Global};
+use std::fmt;
 
 /// The key of an option.
 #[derive(Debug, Clone, Copy, PartialEq, Eq)]
@@ -23,10 +24,10 @@ pub enum Place {
 
 pub type Plan = Declaration<'static, Key, Key, Place, Key, Key>;
 
-pub type PlanWord = Positional<'static, Place>;
+type PlanKind = Kind<'static, Key, Key, Key, Key>;
 
 /// An item of a line.
-#[derive(Debug, PartialEq, Eq, Drop)]
+#[derive(PartialEq, Drop)]
 pub enum Item<'w> {
     /// The option at this place of the declaration, and its values.
     Option(usize, Vec<&'w str>),
@@ -62,7 +63,7 @@ enum Pending<'w> {
 }
 
 /// What can come after some words.
-#[derive(Debug, Clone, Copy, PartialEq, Eq)]
+#[derive(Clone, Copy, PartialEq)]
 pub enum Next {
     /// An option, or a word that is not a value.
     Option,
@@ -105,11 +106,13 @@ pub fn place_of(plan: &Plan, typed: Typed<'_>) -> Option<usize> {
         .position(|option| is_named(option.names, typed))
 }
 
-/// The text of an option in messages.
-pub fn text_of(alloc: Global, typed: Typed<'_>) -> Result<String, AllocError> {
-    match typed {
-        Typed::Short(character) => format!(in alloc; "-{character}"),
-        Typed::Long(name) => format!(in alloc; "--{name}"),
+// The text of an option in messages.
+impl fmt::Display for Typed<'_> {
+    fn fmt<W: fmt::Write>(&self, f: &mut fmt::Formatter<W>) -> fmt::Result {
+        match self {
+            Typed::Short(character) => write!(f, "-{character}"),
+            Typed::Long(name) => write!(f, "--{name}"),
+        }
     }
 }
 
@@ -126,18 +129,12 @@ fn is_full(plan: &Plan, items: &[Item<'_>]) -> bool {
 
 /// The values that the option at this place accepts, if it has a list.
 pub fn list_at(plan: &Plan, place: usize) -> Option<&'static [&'static str]> {
-    match plan.options.get(place).map(|option| option.words) {
-        Some(Words::Listed(values)) => Some(values),
-        _ => None,
-    }
+    list_of(plan.options.get(place)?.words)
 }
 
 // The first of these values that is not in a list.
 fn first_unlisted<'w>(list: &[&str], values: &[&'w str]) -> Option<&'w str> {
-    values
-        .iter()
-        .find(|value| !list.iter().any(|own| own == *value))
-        .copied()
+    values.iter().find(|value| !list.contains(value)).copied()
 }
 
 // The mistake that the option of an item does not accept one of its values, if it does not.
@@ -151,9 +148,19 @@ fn unlisted(alloc: Global, plan: &Plan, item: &Item<'_>) -> Result<Option<String
     let Some(value) = first_unlisted(list, values) else {
         return Ok(None);
     };
-    let name = name_of(alloc, option.names)?;
+    let name = name_of(option.names);
     let list = list.join(alloc, ", ")?;
     Ok(Some(format!(in alloc; "invalid value \"{value}\" for '{name}': one of {list}")?))
+}
+
+// What an option of this kind leaves pending, with or without a value in its word.
+fn pending_after<'w>(kind: PlanKind, typed: Typed<'w>, has_value: bool) -> Pending<'w> {
+    match (kind, typed) {
+        (Kind::Value(_, placeholder), _) if !has_value => Pending::Value(placeholder, typed),
+        (Kind::Values(_, placeholder), Typed::Short(_)) => Pending::Values(placeholder, typed),
+        (Kind::Values(_, placeholder), _) if !has_value => Pending::Values(placeholder, typed),
+        _ => Pending::Nothing,
+    }
 }
 
 impl<'w> Reader<'w> {
@@ -206,8 +213,24 @@ impl<'w> Reader<'w> {
             return self.refuse_value();
         }
         let _without_value = self.items.pop();
-        let option = text_of(self.alloc, typed)?;
-        Ok(Some(format!(in self.alloc; "missing argument {placeholder} for option '{option}'")?))
+        Ok(Some(format!(in self.alloc; "missing argument {placeholder} for option '{typed}'")?))
+    }
+
+    // Reads an option without values, and the value that follows it in its word.
+    fn read_flag(
+        &mut self,
+        place: usize,
+        typed: Typed<'w>,
+        value: Option<&'w str>,
+    ) -> Result<(Option<String>, bool), AllocError> {
+        if let (Typed::Long(_), Some(value)) = (typed, value) {
+            let mistake = format!(in self.alloc;
+                "unexpected argument for option '{typed}': \"{value}\""
+            )?;
+            return Ok((Some(mistake), true));
+        }
+        self.add(place)?;
+        Ok((None, value.is_none()))
     }
 
     // Reads an option and the value that follows it in its word. Returns the mistake, if there is
@@ -218,42 +241,19 @@ impl<'w> Reader<'w> {
         value: Option<&'w str>,
     ) -> Result<(Option<String>, bool), AllocError> {
         let Some(place) = place_of(self.plan, typed) else {
-            let option = text_of(self.alloc, typed)?;
             return Ok((
-                Some(format!(in self.alloc; "invalid option '{option}'")?),
+                Some(format!(in self.alloc; "invalid option '{typed}'")?),
                 true,
             ));
         };
         let Some(option) = self.plan.options.get(place) else {
             return Ok((None, true));
         };
-        let joined = matches!(typed, Typed::Long(_));
-        match option.kind {
-            Kind::Flag(_) | Kind::Help | Kind::Version(_) => {
-                if let (true, Some(value)) = (joined, value) {
-                    let option = text_of(self.alloc, typed)?;
-                    let mistake = format!(in self.alloc;
-                        "unexpected argument for option '{option}': \"{value}\""
-                    )?;
-                    return Ok((Some(mistake), true));
-                }
-                self.add(place)?;
-                return Ok((None, value.is_none()));
-            }
-            Kind::Value(_, placeholder) => {
-                self.add(place)?;
-                if value.is_none() {
-                    self.pending = Pending::Value(placeholder, typed);
-                }
-            }
-            Kind::Maybe(_, _) => self.add(place)?,
-            Kind::Values(_, placeholder) => {
-                self.add(place)?;
-                if !joined || value.is_none() {
-                    self.pending = Pending::Values(placeholder, typed);
-                }
-            }
+        if let Kind::Flag(_) | Kind::Help | Kind::Version(_) = option.kind {
+            return self.read_flag(place, typed, value);
         }
+        self.add(place)?;
+        self.pending = pending_after(option.kind, typed, value.is_some());
         if let Some(value) = value {
             self.add_value(value)?;
             if let Pending::Nothing = self.pending {
@@ -266,10 +266,7 @@ impl<'w> Reader<'w> {
     // Reads a cluster: what follows the only leading dash of a word.
     fn read_cluster(&mut self, cluster: &'w str) -> Result<Option<String>, AllocError> {
         let mut rest = cluster.chars();
-        for _ in 0..cluster.len() {
-            let Some(character) = rest.next() else {
-                break;
-            };
+        while let Some(character) = rest.next() {
             let value = Some(rest.as_str()).filter(|value| !value.is_empty());
             let (mistake, done) = self.read_option(Typed::Short(character), value)?;
             if done {
@@ -350,20 +347,12 @@ impl<'w> Reader<'w> {
     fn possible_next(&self) -> Next {
         match (self.pending, self.items.last()) {
             (Pending::Value(_, _), Some(Item::Option(place, _))) => Next::Value(*place),
-            (Pending::Values(_, _), Some(Item::Option(place, values))) => {
-                if values.is_empty() {
-                    Next::PlainValue(*place)
-                } else {
-                    Next::OptionOrValue(*place)
-                }
+            (Pending::Values(_, _), Some(Item::Option(place, _))) if self.has_values() => {
+                Next::OptionOrValue(*place)
             }
-            _ => {
-                if self.after_separator {
-                    Next::Positional
-                } else {
-                    Next::Option
-                }
-            }
+            (Pending::Values(_, _), Some(Item::Option(place, _))) => Next::PlainValue(*place),
+            _ if self.after_separator => Next::Positional,
+            _ => Next::Option,
         }
     }
 }
@@ -411,21 +400,30 @@ pub fn next_after(
     }
 }
 
-/// Whether the last of these words is read as the option at this place, without a value so far,
-/// after `count` other items.
+/// A spelling, and the place of its option in the declaration.
+#[derive(Clone, Copy)]
+pub struct Spelling {
+    pub text: &'static str,
+    pub place: usize,
+}
+
+/// Whether a spelling after these words is read as its option, without a value so far, after `count`
+/// other items.
 pub fn ends_in_option(
     alloc: Global,
     plan: &'static Plan,
-    words: &[&str],
+    before: &[&'static str],
+    spelling: Spelling,
     count: usize,
-    place: usize,
 ) -> Result<bool, AllocError> {
     let mut reader = new_reader(alloc, plan, true);
-    if reader.read_words(words)?.is_some() || reader.items.len() != count.saturating_add(1) {
-        return Ok(false);
-    }
-    match reader.items.last() {
-        Some(Item::Option(own, values)) => Ok(*own == place && values.is_empty()),
-        _ => Ok(false),
-    }
+    Ok(
+        reader.read_words(before)?.is_none()
+            && reader.read_word(spelling.text)?.is_none()
+            && reader.items.len() == count.saturating_add(1)
+            && matches!(
+                reader.items.last(),
+                Some(Item::Option(own, values)) if *own == spelling.place && values.is_empty()
+            ),
+    )
 }

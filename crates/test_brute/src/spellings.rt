@@ -1,104 +1,82 @@
 //! The spellings and values that are offered, compared with the plain reader.
 use crate::ends::owners_after;
 use crate::plain::{
-    Item, Key, Next, Place, Plan, Reading, Typed, ends_in_option, list_at, next_after, place_of,
+    Item, Key, Next, Place, Plan, Spelling, Typed, ends_in_option, list_at, next_after, place_of,
     read,
 };
 use crate::plans::{FRONTS, SPELLINGS, TAILS, WORDS, plans};
 use crate::words_of;
-use lexopt_options::{Arity, Options, OsString, Spelling as Offered};
+use lexopt_options::{Arity, Completion, Options, OsString, Spelling as Offered};
 use std::alloc::{AllocError, Global};
 use test_helpers::lists::list_of;
 
 type KeyOptions = Options<'static, Key, Key, Place, Key, Key>;
 
-// A spelling, and the place of its option in the declaration.
-#[derive(Clone, Copy)]
-struct Spelling {
-    text: &'static str,
-    place: usize,
-}
+// The numbers of the lists of at most two of the thirteen words are below this one.
+const PAIRS: usize = 14 * 14;
 
 // The place of the option with this spelling, if it is declared.
 fn place_of_spelling(plan: &Plan, spelling: &str) -> Option<usize> {
     match spelling.strip_prefix("--") {
         Some(name) => place_of(plan, Typed::Long(name)),
-        None => match spelling.chars().last() {
-            Some(character) => place_of(plan, Typed::Short(character)),
-            None => None,
-        },
+        None => place_of(plan, Typed::Short(spelling.chars().last()?)),
     }
 }
 
-// The declared spellings of options that are not hidden, in order.
-fn spellings_of(alloc: Global, plan: &Plan) -> Result<Vec<Spelling>, AllocError> {
-    let mut spellings = Vec::new(alloc);
-    for (place, option) in plan.options.iter().enumerate() {
-        for text in SPELLINGS {
-            if !option.hidden && place_of_spelling(plan, text) == Some(place) {
-                spellings.push(Spelling { text, place })?;
-            }
-        }
-    }
-    Ok(spellings)
+// What can come after some words.
+#[derive(Drop)]
+struct Possible {
+    spellings: Vec<Spelling>,
+    next: Next,
+    // The positionals to which the next word can belong, and the words in their lists.
+    owners: Vec<usize>,
+    words: Vec<&'static str>,
 }
 
-// Whether a legal line is read as `front` and then the option at this place.
-fn continues_with(front: &Reading<'static>, place: usize, line: &Reading<'static>) -> bool {
-    line.mistake.is_none()
-        && line.missing.is_none()
-        && line.items.starts_with(&front.items)
-        && matches!(
-            line.items.get(front.items.len()),
-            Some(Item::Option(own, _)) if *own == place
-        )
-}
-
-// The words `before`, the spelling, and the words `after`.
-fn joined(
+// Whether a line with these words around the spelling is legal, and is read as `front` and then the
+// option of the spelling.
+fn goes_on(
     alloc: Global,
+    plan: &'static Plan,
     before: &[&'static str],
-    spelling: &'static str,
+    front: &[Item<'static>],
+    spelling: Spelling,
     after: &[&'static str],
-) -> Result<Vec<&'static str>, AllocError> {
-    let mut words = Vec::new(alloc);
-    for word in before {
-        words.push(*word)?;
-    }
-    words.push(spelling)?;
-    for word in after {
-        words.push(*word)?;
-    }
-    Ok(words)
+) -> Result<bool, AllocError> {
+    let words = [before, &[spelling.text], after].concat(alloc)?;
+    let line = read(alloc, plan, &words)?;
+    Ok(
+        line.mistake.is_none()
+            && line.missing.is_none()
+            && line.items.starts_with(front)
+            && matches!(
+                line.items.get(front.len()),
+                Some(Item::Option(own, _)) if *own == spelling.place
+            ),
+    )
 }
 
-// Whether a spelling can come after these words: a line with one of `TAILS` or with at most two
-// words after the spelling is legal, and the spelling is its option there.
+// Whether a spelling can come after these words, which are read as `front`: a line with one of
+// `TAILS` or with at most two words after the spelling is legal, and the spelling is its option
+// there.
 fn can_come(
     alloc: Global,
     plan: &'static Plan,
     before: &[&'static str],
+    front: &[Item<'static>],
     spelling: Spelling,
 ) -> Result<bool, AllocError> {
-    let front = read(alloc, plan, before)?;
-    let words = joined(alloc, before, spelling.text, &[])?;
-    if front.mistake.is_some()
-        || !ends_in_option(alloc, plan, &words, front.items.len(), spelling.place)?
-    {
+    if !ends_in_option(alloc, plan, before, spelling, front.len())? {
         return Ok(false);
     }
     for after in TAILS {
-        let words = joined(alloc, before, spelling.text, after)?;
-        if continues_with(&front, spelling.place, &read(alloc, plan, &words)?) {
+        if goes_on(alloc, plan, before, front, spelling, after)? {
             return Ok(true);
         }
     }
-    // The numbers of the lists of at most two of the words are below the square of `base`.
-    let base = WORDS.len().saturating_add(1);
-    for number in 0..base.saturating_mul(base) {
+    for number in 0..PAIRS {
         if let Some(after) = list_of(alloc, &WORDS, number)? {
-            let words = joined(alloc, before, spelling.text, &after)?;
-            if continues_with(&front, spelling.place, &read(alloc, plan, &words)?) {
+            if goes_on(alloc, plan, before, front, spelling, &after)? {
                 return Ok(true);
             }
         }
@@ -106,32 +84,60 @@ fn can_come(
     Ok(false)
 }
 
-// The spellings that can come after these words.
+// The spellings that can come after these words, in the order of the declaration.
 fn possible_spellings(
     alloc: Global,
     plan: &'static Plan,
     before: &[&'static str],
 ) -> Result<Vec<Spelling>, AllocError> {
     let mut found = Vec::new(alloc);
-    for spelling in spellings_of(alloc, plan)? {
-        if can_come(alloc, plan, before, spelling)? {
-            found.push(spelling)?;
+    let front = read(alloc, plan, before)?;
+    if front.mistake.is_some() {
+        return Ok(found);
+    }
+    for (place, option) in plan.options.iter().enumerate() {
+        for text in SPELLINGS {
+            let spelling = Spelling { text, place };
+            if !option.hidden
+                && place_of_spelling(plan, text) == Some(place)
+                && can_come(alloc, plan, before, &front.items, spelling)?
+            {
+                found.push(spelling)?;
+            }
         }
     }
     Ok(found)
 }
 
+// What can come after these words.
+fn possible_after(
+    alloc: Global,
+    plan: &'static Plan,
+    before: &[&'static str],
+) -> Result<Possible, AllocError> {
+    let (next, count) = next_after(alloc, plan, before)?;
+    let spellings = possible_spellings(alloc, plan, before)?;
+    let (owners, words) = owners_after(alloc, plan, count)?;
+    Ok(Possible {
+        spellings,
+        next,
+        owners,
+        words,
+    })
+}
+
 // Whether exactly the possible spellings that begin with what was typed are offered.
 fn are_offered(possible_spellings: &[Spelling], typed: &str, offered: &[Offered<'_>]) -> bool {
-    let wanted = possible_spellings
-        .iter()
-        .filter(|spelling| spelling.text.starts_with(typed));
-    wanted.count() == offered.len()
-        && possible_spellings
-            .iter()
-            .filter(|spelling| spelling.text.starts_with(typed))
-            .zip(offered)
-            .all(|(spelling, own)| spelling.text == own.text.as_str())
+    let mut count = 0usize;
+    for spelling in possible_spellings {
+        if spelling.text.starts_with(typed) {
+            if !matches!(offered.get(count), Some(own) if own.text.as_str() == spelling.text) {
+                return false;
+            }
+            count = count.saturating_add(1);
+        }
+    }
+    count == offered.len()
 }
 
 // The option whose value is typed after `=`, and the part of the word before the value.
@@ -228,6 +234,26 @@ fn can_be_positional(next: Next, typed: &str) -> bool {
     next == Next::Positional || (next == Next::Option && !typed.starts_with('-'))
 }
 
+// Whether this completion of a typed word has what is possible.
+fn is_right(
+    alloc: Global,
+    plan: &Plan,
+    possible: &Possible,
+    typed: &'static str,
+    completion: &Completion<'static, Key, Key, Key, Key>,
+) -> Result<bool, AllocError> {
+    let owners: &[usize] = if can_be_positional(possible.next, typed) {
+        &possible.owners
+    } else {
+        &[]
+    };
+    Ok(
+        are_offered(&possible.spellings, typed, &completion.spellings)
+            && completion.arguments.as_slice() == owners
+            && completion.values == values_of(alloc, plan, possible.next, &possible.words, typed)?,
+    )
+}
+
 // For how many typed words the right spellings and values are offered after these words.
 fn count_right_after(
     alloc: Global,
@@ -235,22 +261,12 @@ fn count_right_after(
     options: &KeyOptions,
     before: &[&'static str],
 ) -> Result<usize, AllocError> {
-    let possible_spellings = possible_spellings(alloc, plan, before)?;
-    let (next, count) = next_after(alloc, plan, before)?;
-    let (owners, own_words) = owners_after(alloc, plan, count)?;
+    let possible = possible_after(alloc, plan, before)?;
     let mut right = 0usize;
     for typed in FRONTS {
         let word = OsString::from_bytes(alloc, typed.as_bytes())?;
         let completion = options.complete(alloc, words_of(alloc, before)?, &word)?;
-        let arguments: &[usize] = if can_be_positional(next, typed) {
-            &owners
-        } else {
-            &[]
-        };
-        if are_offered(&possible_spellings, typed, &completion.spellings)
-            && completion.values == values_of(alloc, plan, next, &own_words, typed)?
-            && completion.arguments.as_slice() == arguments
-        {
+        if is_right(alloc, plan, &possible, typed, &completion)? {
             right = right.saturating_add(1);
         }
     }
@@ -258,30 +274,23 @@ fn count_right_after(
 }
 
 // The same, counted after no word, and after each one and each two of the words.
-fn count_right(alloc: Global, plan: &'static Plan) -> Result<usize, AllocError> {
-    let Ok(options) = Options::try_new(plan) else {
-        return Ok(0);
-    };
-    let mut right = count_right_after(alloc, plan, &options, &[])?;
-    for word in WORDS {
-        right = right.saturating_add(count_right_after(alloc, plan, &options, &[word])?);
-        for second in WORDS {
-            right = right.saturating_add(count_right_after(
-                alloc,
-                plan,
-                &options,
-                &[word, second],
-            )?);
+fn count_right(alloc: Global, plan: &'static Plan) -> usize {
+    let mut right = 0usize;
+    if let Ok(options) = Options::try_new(plan) {
+        for number in 0..PAIRS {
+            if let Ok(Some(before)) = list_of(alloc, &WORDS, number) {
+                let count = count_right_after(alloc, plan, &options, &before);
+                right = right.saturating_add(count.unwrap_or(0));
+            }
         }
     }
-    Ok(right)
+    right
 }
 
 // Eight words are typed after each of 1 + 13 + 169 lines.
 #[test]
 fn spellings(rt: HostRuntime) {
     for plan in plans() {
-        let right = count_right(rt.alloc(), plan).expect(&rt, "memory");
-        assert_eq!(rt; right, 1_464, "{}", plan.program);
+        assert_eq!(rt; count_right(rt.alloc(), plan), 1_464, "{}", plan.program);
     }
 }
