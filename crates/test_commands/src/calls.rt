@@ -133,23 +133,26 @@ fn text_of_step(alloc: Global, step: Step<'_, Task, Flag, Value>) -> Result<Stri
     }
 }
 
+// How the last of these words is completed among leading options, as `Debug` writes it.
+fn text_of_completion(alloc: Global, mut words: Vec<OsString>) -> Result<String, AllocError> {
+    let typed = words.pop().unwrap_or(OsString::new(alloc));
+    let completion = git().options().complete_leading(alloc, words, &typed)?;
+    format!(in alloc; "{completion:?}")
+}
+
 // What the call returns for these words, as a text.
 fn text_of(alloc: Global, call: Call, line: &[u8]) -> Result<String, AllocError> {
     let words = words_of(alloc, line)?;
-    match call {
-        Read => text_of_line(alloc, &git().read(alloc, words)?),
-        Answer => text_of_step(alloc, git().answer(alloc, words, 30)?),
+    let step = match call {
+        Read => return text_of_line(alloc, &git().read(alloc, words)?),
+        Answer => git().answer(alloc, words, 30),
         Complete => {
             let request = Request::new(alloc, Some(b"zsh_complete"), words);
-            text_of_step(alloc, git().answer_request(alloc, request, 30)?)
+            git().answer_request(alloc, request, 30)
         }
-        CompleteLeading => {
-            let mut words = words;
-            let typed = words.pop().unwrap_or(OsString::new(alloc));
-            let completion = git().options().complete_leading(alloc, words, &typed)?;
-            format!(in alloc; "{completion:?}")
-        }
-    }
+        CompleteLeading => return text_of_completion(alloc, words),
+    };
+    text_of_step(alloc, step?)
 }
 
 #[test]
@@ -160,21 +163,21 @@ fn rows(rt: HostRuntime) {
     }
 }
 
-// Whether the words `git help` of an environment print the help at the width of `COLUMNS`.
-fn is_help_of_the_environment(alloc: Global) -> Result<bool, AllocError> {
-    let words = words_of(alloc, b"git help")?;
+// What the program does with these words of an environment, at the width of `COLUMNS`.
+fn text_of_words(alloc: Global, words: &[OsString]) -> Result<String, AllocError> {
     let environment = Variable {
-        arguments: Arguments { words: &words },
+        arguments: Arguments { words },
         name: "COLUMNS",
         value: Some(b"30"),
     };
-    let step = git().from_env(&(environment, alloc))?;
-    Ok(text_of_step(alloc, step)?.as_str() == HELP_AT_30)
+    text_of_step(alloc, git().from_env(&(environment, alloc))?)
 }
 
 #[test]
 fn help_of_the_environment(rt: HostRuntime) {
-    assert!(rt; is_help_of_the_environment(rt.alloc()).expect(&rt, "memory"));
+    let words = words_of(rt.alloc(), b"git help").expect(&rt, "memory");
+    let text = text_of_words(rt.alloc(), &words).expect(&rt, "memory");
+    assert_eq!(rt; text.as_str(), HELP_AT_30);
 }
 
 #[test]
@@ -190,17 +193,23 @@ fn what_was_given(rt: HostRuntime) {
     assert_eq!(rt; help.as_str(), HELP_AT_30);
 }
 
+static BLANK: [Command<'static, Task>; 1] = [Command {
+    name: "a b",
+    help: "",
+    runs: Runs::Command(Task::Add),
+}];
+
+// Why a name with a blank cannot be declared.
+fn text_of_fault(alloc: Global) -> Result<String, AllocError> {
+    match Commands::try_new(git().options(), &BLANK) {
+        Ok(_) => Ok(String::new(alloc)),
+        Err(error) => error.to_string(alloc),
+    }
+}
+
 #[test]
 fn faults(rt: HostRuntime) {
-    let commands = [Command {
-        name: "a b",
-        help: "",
-        runs: Runs::Command(Task::Add),
-    }];
-    let text = match Commands::try_new(git().options(), &commands) {
-        Ok(_) => String::new(rt.alloc()),
-        Err(error) => error.to_string(rt.alloc()).expect(&rt, "memory"),
-    };
+    let text = text_of_fault(rt.alloc()).expect(&rt, "memory");
     assert_eq!(rt;
         text.as_str(),
         "command 'a b': its name has a blank or a control character in it"

@@ -26,27 +26,29 @@ static ADD: Declaration<'static, Infallible, Infallible, ()> = declare! {
     positionals: [once((), "NAME").text()],
 };
 
-// Lines, or requests of a shell, and what is read or printed.
-static ROWS: [(bool, &[u8], &str); 6] = [
+const ASKED: Option<&[u8]> = Some(b"zsh_complete");
+
+// Values of the variable by which a shell asks, lines, and what is read or printed.
+static ROWS: [(Option<&[u8]>, &[u8], &str); 6] = [
     (
-        false,
+        None,
         b"-C dir remote -v add x",
         "[Value(Directory, \"dir\"), Flag(Verbose)] [Positional((), \"x\")]",
     ),
     (
-        false,
+        None,
         b"remote add",
         "git remote add: missing argument NAME\n\
         Try 'git remote add --help' for more information.",
     ),
     (
-        false,
+        None,
         b"remote ad",
         "git remote: unknown command \"ad\"; did you mean 'add'?\n\
         Try 'git remote --help' for more information.",
     ),
     (
-        false,
+        None,
         b"help remote help",
         "Usage: git remote [OPTION]... COMMAND [ARGUMENT]...\n\n  \
         add                   add a remote\n  \
@@ -54,9 +56,9 @@ static ROWS: [(bool, &[u8], &str); 6] = [
         -v, --verbose         tell more\n  \
         -h, --help            print this help and exit\n",
     ),
-    (true, b"-v remote a", "+add\tadd a remote\n"),
+    (ASKED, b"-v remote a", "+add\tadd a remote\n"),
     (
-        true,
+        ASKED,
         b"-v remote add -",
         "-h\tprint this help and exit\n--help\tprint this help and exit\n",
     ),
@@ -88,13 +90,8 @@ fn text_of_remote(
 }
 
 // What is read of these words, or printed.
-fn text_of(alloc: Global, is_asked: bool, line: &[u8]) -> Result<String, AllocError> {
+fn text_of(alloc: Global, value: Option<&[u8]>, line: &[u8]) -> Result<String, AllocError> {
     let words = words_of(alloc, line)?;
-    let value: Option<&[u8]> = if is_asked {
-        Some(b"zsh_complete")
-    } else {
-        None
-    };
     match git().answer_request(alloc, Request::new(alloc, value, words), 80)? {
         Step::Command(Task::Remote, path, call) => text_of_remote(alloc, path.as_str(), call),
         Step::Command(_, path, _) => Ok(path),
@@ -105,8 +102,8 @@ fn text_of(alloc: Global, is_asked: bool, line: &[u8]) -> Result<String, AllocEr
 
 #[test]
 fn rows(rt: HostRuntime) {
-    for (is_asked, line, wanted) in ROWS.iter() {
-        let text = text_of(rt.alloc(), *is_asked, line).expect(&rt, "memory");
+    for (value, line, wanted) in ROWS.iter() {
+        let text = text_of(rt.alloc(), *value, line).expect(&rt, "memory");
         assert_eq!(rt; text.as_str(), *wanted, "{line:?}");
     }
 }
