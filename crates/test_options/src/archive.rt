@@ -92,8 +92,11 @@ pub fn archive<'a>(
 }
 
 /// What was read, as `Debug` writes it; a text that is printed; or a refusal.
-pub fn text_of_answer(alloc: Global, answer: ArchiveAnswer<'_>) -> Result<String, AllocError> {
-    match answer {
+pub fn text_of_answer(
+    alloc: Global,
+    answer: Result<ArchiveAnswer<'_>, AllocError>,
+) -> Result<String, AllocError> {
+    match answer? {
         Answer::Parsed(parsed) => debug_of(alloc, &parsed),
         Answer::Text(text) => Ok(text),
         Answer::Refused(refused) => refused.to_string(alloc),

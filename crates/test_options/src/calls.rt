@@ -96,17 +96,27 @@ fn text_of_leading(alloc: Global, leading: &ArchiveLeading<'_>) -> Result<String
     }
 }
 
+// What `read` returns for these words, as a text.
+fn text_of_read(alloc: Global, words: Vec<OsString>) -> Result<String, AllocError> {
+    text_of_line(alloc, &archive_of_files().read(alloc, words)?)
+}
+
+// The same for `read_leading`.
+fn text_of_read_leading(alloc: Global, words: Vec<OsString>) -> Result<String, AllocError> {
+    text_of_leading(alloc, &archive_of_files().read_leading(alloc, words)?)
+}
+
 // What the call returns for these words, as a text.
 fn text_of(alloc: Global, call: Call, line: &[u8]) -> Result<String, AllocError> {
     let options = archive_of_files();
     let words = words_of(alloc, line)?;
     match call {
-        Read => text_of_line(alloc, &options.read(alloc, words)?),
-        ReadLeading => text_of_leading(alloc, &options.read_leading(alloc, words)?),
-        Answer => text_of_answer(alloc, options.answer(alloc, words, 40)?),
+        Read => text_of_read(alloc, words),
+        ReadLeading => text_of_read_leading(alloc, words),
+        Answer => text_of_answer(alloc, options.answer(alloc, words, 40)),
         Complete => {
             let request = Request::new(alloc, Some(b"bash_complete"), words);
-            text_of_answer(alloc, options.answer_request(alloc, request, 40)?)
+            text_of_answer(alloc, options.answer_request(alloc, request, 40))
         }
     }
 }
@@ -190,7 +200,7 @@ fn faults(rt: HostRuntime) {
         option: Names::Short('-'),
         reason: Reason::DashName,
     };
+    assert_eq!(rt; Options::try_new(&archive(&dash, &[])).err(), Some(error));
     let text = error.to_string(rt.alloc()).expect(&rt, "memory");
     assert_eq!(rt; text.as_str(), "option '--': its character is '-'");
-    assert_eq!(rt; Options::try_new(&archive(&dash, &[])).err(), Some(error));
 }

@@ -55,7 +55,7 @@ fn text_of<'v>(
         name,
         value,
     };
-    text_of_answer(alloc, archive_of_files().from_env(&(environment, alloc))?)
+    text_of_answer(alloc, archive_of_files().from_env(&(environment, alloc)))
 }
 
 #[test]
@@ -68,7 +68,7 @@ fn environments(rt: HostRuntime) {
 
 // Values of `COLUMNS`, and the width. It is 80 if the value is not a number, is 0, or does not fit
 // in 64 bits.
-const WIDTHS: [(Option<&[u8]>, usize); 10] = [
+static WIDTHS: [(Option<&[u8]>, usize); 10] = [
     (Some(b"40"), 40),
     (Some(b"+40"), 40),
     (Some(b"00000000000000000040"), 40),
@@ -83,12 +83,12 @@ const WIDTHS: [(Option<&[u8]>, usize); 10] = [
 
 #[test]
 fn widths(rt: HostRuntime) {
-    for (value, width) in WIDTHS {
+    for (value, width) in WIDTHS.iter() {
         let environment = Variable {
             arguments: Arguments { words: &[] },
             name: "COLUMNS",
-            value,
+            value: *value,
         };
-        assert_eq!(rt; columns(&environment), width);
+        assert_eq!(rt; columns(&environment), *width);
     }
 }

@@ -6,48 +6,31 @@ use lexopt_options::{
 use std::alloc::{AllocError, Global};
 use test_helpers::parsers::words_of;
 
-macro_rules! name {
-    ($verb:literal, $part:literal) => {
-        Names::Long(concat!($verb, "-", $part))
-    };
-}
-
-macro_rules! text {
-    ($verb:literal, $part:literal) => {
-        concat!(
-            $verb,
-            " the ",
-            $part,
-            " of each entry before anything else is done with it"
-        )
-    };
-}
-
 // Twenty options that do this to the parts of an entry. Their keys are counted from `$first`.
 macro_rules! group {
     ($verb:literal, $first:literal) => {
         declare_group! {
             options: [
-                flag($first, name!($verb, "date"), text!($verb, "date")),
-                value($first + 1, name!($verb, "device"), "DEVICE", text!($verb, "device")),
-                flag($first + 2, name!($verb, "file"), text!($verb, "file")),
-                value($first + 3, name!($verb, "group"), "GROUP", text!($verb, "group")),
-                flag($first + 4, name!($verb, "host"), text!($verb, "host")),
-                value($first + 5, name!($verb, "line"), "LINE", text!($verb, "line")),
-                flag($first + 6, name!($verb, "link"), text!($verb, "link")),
-                value($first + 7, name!($verb, "mode"), "MODE", text!($verb, "mode")),
-                flag($first + 8, name!($verb, "name"), text!($verb, "name")),
-                value($first + 9, name!($verb, "owner"), "OWNER", text!($verb, "owner")),
-                flag($first + 10, name!($verb, "page"), text!($verb, "page")),
-                value($first + 11, name!($verb, "path"), "PATH", text!($verb, "path")),
-                flag($first + 12, name!($verb, "port"), text!($verb, "port")),
-                value($first + 13, name!($verb, "root"), "ROOT", text!($verb, "root")),
-                flag($first + 14, name!($verb, "size"), text!($verb, "size")),
-                value($first + 15, name!($verb, "table"), "TABLE", text!($verb, "table")),
-                flag($first + 16, name!($verb, "text"), text!($verb, "text")),
-                value($first + 17, name!($verb, "time"), "TIME", text!($verb, "time")),
-                flag($first + 18, name!($verb, "type"), text!($verb, "type")),
-                value($first + 19, name!($verb, "user"), "USER", text!($verb, "user")),
+                flag($first, Names::Long(concat!($verb, "-date")), ""),
+                value($first + 1, Names::Long(concat!($verb, "-device")), "DEVICE", ""),
+                flag($first + 2, Names::Long(concat!($verb, "-file")), ""),
+                value($first + 3, Names::Long(concat!($verb, "-group")), "GROUP", ""),
+                flag($first + 4, Names::Long(concat!($verb, "-host")), ""),
+                value($first + 5, Names::Long(concat!($verb, "-line")), "LINE", ""),
+                flag($first + 6, Names::Long(concat!($verb, "-link")), ""),
+                value($first + 7, Names::Long(concat!($verb, "-mode")), "MODE", ""),
+                flag($first + 8, Names::Long(concat!($verb, "-name")), ""),
+                value($first + 9, Names::Long(concat!($verb, "-owner")), "OWNER", ""),
+                flag($first + 10, Names::Long(concat!($verb, "-page")), ""),
+                value($first + 11, Names::Long(concat!($verb, "-path")), "PATH", ""),
+                flag($first + 12, Names::Long(concat!($verb, "-port")), ""),
+                value($first + 13, Names::Long(concat!($verb, "-root")), "ROOT", ""),
+                flag($first + 14, Names::Long(concat!($verb, "-size")), ""),
+                value($first + 15, Names::Long(concat!($verb, "-table")), "TABLE", ""),
+                flag($first + 16, Names::Long(concat!($verb, "-text")), ""),
+                value($first + 17, Names::Long(concat!($verb, "-time")), "TIME", ""),
+                flag($first + 18, Names::Long(concat!($verb, "-type")), ""),
+                value($first + 19, Names::Long(concat!($verb, "-user")), "USER", ""),
             ],
         }
     };
@@ -88,20 +71,26 @@ static DECLARATION: Declaration<'static, u16, u16> = declare! {
     options: [help(Names::Both('h', "help"))],
 };
 
-// Whether a line is one option with this key.
+// Whether a line has the option with this key, and nothing else.
+fn has_option(line: &Line<'_, u16, u16>, key: u16) -> bool {
+    match line {
+        Line::Parsed(parsed) => matches!(
+            parsed.as_slice(),
+            [Parsed::Flag(own) | Parsed::Value(own, _)] if *own == key
+        ),
+        Line::Asked(_) | Line::Refused(_) => false,
+    }
+}
+
+// Whether this line is read as the option with this key.
 fn is_read(
     alloc: Global,
     options: &Options<'_, u16, u16>,
     line: &str,
     key: u16,
 ) -> Result<bool, AllocError> {
-    match options.read(alloc, words_of(alloc, line.as_bytes())?)? {
-        Line::Parsed(parsed) => Ok(matches!(
-            parsed.as_slice(),
-            [Parsed::Flag(own) | Parsed::Value(own, _)] if *own == key
-        )),
-        Line::Asked(_) | Line::Refused(_) => Ok(false),
-    }
+    let line = options.read(alloc, words_of(alloc, line.as_bytes())?)?;
+    Ok(has_option(&line, key))
 }
 
 // Whether this option is read from its long name, with a value if it has one.
@@ -111,36 +100,34 @@ fn is_found(
     option: &Declared<'_, u16, u16>,
 ) -> Result<bool, AllocError> {
     let name = option.names.long().unwrap_or("");
-    match option.kind {
-        Kind::Flag(key) => is_read(alloc, options, format!(in alloc; "--{name}")?.as_str(), key),
-        Kind::Value(key, _) => {
-            is_read(
-                alloc,
-                options,
-                format!(in alloc; "--{name}=x")?.as_str(),
-                key,
-            )
-        }
-        _ => Ok(false),
-    }
+    let (key, value) = match option.kind {
+        Kind::Flag(key) => (key, ""),
+        Kind::Value(key, _) => (key, "=x"),
+        _ => return Ok(false),
+    };
+    let line = format!(in alloc; "--{name}{value}")?;
+    is_read(alloc, options, line.as_str(), key)
 }
 
-// How many of the options are found by their long names.
+// How many of these options are found by their long names.
+fn count_found(alloc: Global, options: &Options<'_, u16, u16>) -> Result<usize, AllocError> {
+    let mut count = 0usize;
+    for option in options.options() {
+        if is_found(alloc, options, option)? {
+            count = count.wrapping_add(1);
+        }
+    }
+    Ok(count)
+}
+
+// The same for the options of all groups.
 fn found(alloc: Global) -> Result<usize, AllocError> {
     let groups = [
         ADD, ALLOW, COPY, COUNT, HIDE, IGNORE, KEEP, LIMIT, LIST, MERGE, PRINT, QUOTE, READ, SKIP,
         SORT,
     ];
     let combined = Combined::new(alloc, &DECLARATION, &groups)?;
-    let declaration = combined.declaration();
-    let options = Options::new(&declaration);
-    let mut count = 0usize;
-    for option in options.options() {
-        if is_found(alloc, &options, option)? {
-            count = count.wrapping_add(1);
-        }
-    }
-    Ok(count)
+    count_found(alloc, &Options::new(&combined.declaration()))
 }
 
 #[test]

@@ -1,6 +1,6 @@
 //! Conversions of values, and what is printed if one fails. No clause states the texts of errors of
 //! `FromStr`.
-use crate::archive::{ArchiveOptions, Maybe, Value, Values, archive_of_files};
+use crate::archive::{Maybe, Value, Values, archive_of_files};
 use lexopt_options::{Error, OsString, USAGE_ERROR, UsageError, ValueExt};
 use std::alloc::{AllocError, Global};
 
@@ -14,12 +14,9 @@ enum Call {
     Parse,
 }
 
-// The number that this call makes of a word.
-fn number_of(
-    options: &ArchiveOptions<'static>,
-    call: Call,
-    word: &OsString,
-) -> Result<u32, UsageError<'static>> {
+// The number that this call makes of a word, or the mistake.
+fn converted(call: Call, word: &OsString) -> Result<u32, UsageError<'static>> {
+    let options = archive_of_files();
     match call {
         Call::Value => options.parse_value::<u32>(Value::Output, word),
         Call::Maybe => options.parse_maybe::<u32>(Maybe::Backup, word),
@@ -31,56 +28,68 @@ fn number_of(
     }
 }
 
-// What is printed for a mistake that the program found, and the exit status.
-fn reported(alloc: Global, error: UsageError<'static>) -> Result<(String, u8), AllocError> {
+// Whether this is printed for a mistake that the program found, with this exit status.
+fn is_reported(
+    alloc: Global,
+    error: UsageError<'static>,
+    text: &str,
+    status: u8,
+) -> Result<bool, AllocError> {
     let options = archive_of_files();
     let report = options.report(error);
-    Ok((report.to_string(alloc)?, report.status()))
+    Ok(report.status() == status && report.to_string(alloc)?.as_str() == text)
 }
 
-// Whether the call makes 7 of `7`, and refuses this word with this message.
-fn is_converted(alloc: Global, call: Call, word: &[u8], mistake: &str) -> Result<bool, AllocError> {
-    let options = archive_of_files();
-    let good = OsString::from_text(alloc, "7")?;
-    let bad = OsString::from_bytes(alloc, word)?;
-    let is_seven = matches!(number_of(&options, call, &good), Ok(7));
-    let Err(error) = number_of(&options, call, &bad) else {
-        return Ok(false);
-    };
-    let (text, status) = reported(alloc, error)?;
-    let wanted = format!(in alloc;
-        "archive: {mistake}\nTry 'archive --help' for more information."
-    )?;
-    Ok(is_seven && text == wanted && status == USAGE_ERROR)
+// Whether the call makes 7 of `7`.
+fn makes_seven(alloc: Global, call: Call) -> Result<bool, AllocError> {
+    let word = OsString::from_text(alloc, "7")?;
+    Ok(matches!(converted(call, &word), Ok(7)))
 }
+
+// Whether the call refuses this word, and this is printed.
+fn is_refused(alloc: Global, call: Call, word: &[u8], text: &str) -> Result<bool, AllocError> {
+    let word = OsString::from_bytes(alloc, word)?;
+    match converted(call, &word) {
+        Ok(_) => Ok(false),
+        Err(error) => is_reported(alloc, error, text, USAGE_ERROR),
+    }
+}
+
+// Calls, words that they refuse, and what is printed.
+static ROWS: [(Call, &[u8], &str); 4] = [
+    (
+        Call::Value,
+        b"x",
+        "archive: invalid value \"x\" for '--output': invalid digit found in string\n\
+        Try 'archive --help' for more information.",
+    ),
+    (
+        Call::Maybe,
+        b"7\xFF",
+        "archive: invalid value \"7\\xFF\" for '--backup': not UTF-8\n\
+        Try 'archive --help' for more information.",
+    ),
+    (
+        Call::Values,
+        b"-1",
+        "archive: invalid value \"-1\" for '--exclude': invalid digit found in string\n\
+        Try 'archive --help' for more information.",
+    ),
+    (
+        Call::Parse,
+        b"",
+        "archive: invalid value \"\": cannot parse integer from empty string\n\
+        Try 'archive --help' for more information.",
+    ),
+];
 
 #[test]
 fn conversions(rt: HostRuntime) {
-    for (call, word, mistake) in [
-        (
-            Call::Value,
-            b"x".as_slice(),
-            "invalid value \"x\" for '--output': invalid digit found in string",
-        ),
-        (
-            Call::Maybe,
-            b"7\xFF",
-            "invalid value \"7\\xFF\" for '--backup': not UTF-8",
-        ),
-        (
-            Call::Values,
-            b"-1",
-            "invalid value \"-1\" for '--exclude': invalid digit found in string",
-        ),
-        (
-            Call::Parse,
-            b"",
-            "invalid value \"\": cannot parse integer from empty string",
-        ),
-    ] {
+    for (call, word, text) in ROWS.iter() {
         assert!(rt;
-            is_converted(rt.alloc(), call, word, mistake).expect(&rt, "memory"),
-            "{mistake}"
+            makes_seven(rt.alloc(), *call).expect(&rt, "memory")
+                && is_refused(rt.alloc(), *call, word, text).expect(&rt, "memory"),
+            "{text}"
         );
     }
 }
@@ -89,7 +98,5 @@ fn conversions(rt: HostRuntime) {
 #[test]
 fn no_memory(rt: HostRuntime) {
     let error = UsageError::from(Error::OutOfMemory);
-    let (text, status) = reported(rt.alloc(), error).expect(&rt, "memory");
-    assert_eq!(rt; text.as_str(), "archive: out of memory");
-    assert_eq!(rt; status, 1);
+    assert!(rt; is_reported(rt.alloc(), error, "archive: out of memory", 1).expect(&rt, "memory"));
 }
