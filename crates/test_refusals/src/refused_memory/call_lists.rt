@@ -1,5 +1,5 @@
 //! A list of calls, of every kind.
-use crate::refused_memory::out_of_memory_in;
+use crate::refused_memory::{Outcome, check_outcome, out_of_memory_in};
 use lexopt::replay::{Call, Reply, replay};
 use lexopt::{Error, OsString, Parser};
 use std::alloc::{AllocError, Global};
@@ -99,8 +99,27 @@ fn is_part(alloc: Global, calls: &[Call], found: &[Reply]) -> Result<bool, Error
     Ok(false)
 }
 
+// How a list of calls went that has these replies: each was made, or one ran out of memory, and
+// changed nothing.
+fn outcome_of(alloc: Global, calls: &[Call], replies: &[Reply]) -> Result<Outcome, Error> {
+    match replies.iter().position(|reply| *reply == Reply::NoMemory) {
+        Some(place) => {
+            Ok(Outcome::OutOfMemory.only_if(changed_nothing(alloc, calls, replies, place)?))
+        }
+        None => Ok(Outcome::of(replies.len() == calls.len())),
+    }
+}
+
 // If one allocation fails, a list of calls has one reply `NoMemory`, of a call that changed
 // nothing; or `replay` returns an error, and only the first calls were made.
+fn check_calls(alloc: Global, calls: &[Call], parser: &mut Parser) -> Result<(), Fail> {
+    let Ok(replies) = replay(alloc, parser, calls) else {
+        let is_left = is_part(alloc, calls, &left(alloc, parser)?)?;
+        return check_outcome(Outcome::OutOfMemory.only_if(is_left), "replay");
+    };
+    check_outcome(outcome_of(alloc, calls, &replies)?, "a call")
+}
+
 #[test]
 fn calls_of_every_kind(rt: HostRuntime) -> Result<(), Fail> {
     let alloc = rt.alloc();
@@ -110,24 +129,5 @@ fn calls_of_every_kind(rt: HostRuntime) -> Result<(), Fail> {
     let Ok(mut parser) = line(alloc) else {
         return out_of_memory_in("from_args");
     };
-    match replay(alloc, &mut parser, &calls) {
-        Ok(replies) => {
-            let place = replies.iter().position(|reply| *reply == Reply::NoMemory);
-            match place {
-                Some(place) => {
-                    assert!(rt; changed_nothing(alloc, &calls, &replies, place)?);
-                    out_of_memory_in("a call")
-                }
-                None => {
-                    assert_eq!(rt; replies.len(), calls.len());
-                    Ok(())
-                }
-            }
-        }
-        Err(_) => {
-            let found = left(alloc, &mut parser)?;
-            assert!(rt; is_part(alloc, &calls, &found)?);
-            out_of_memory_in("replay")
-        }
-    }
+    check_calls(alloc, &calls, &mut parser)
 }

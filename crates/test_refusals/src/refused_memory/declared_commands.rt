@@ -26,14 +26,15 @@ static TASKS: &[Command<'static, u8>] = declare_commands![
 // How a call went that is expected to return the step with this text.
 fn step_outcome(
     alloc: Global,
-    step: &Step<'_, u8, Flag, Value>,
+    step: &Result<Step<'_, u8, Flag, Value>, AllocError>,
     wanted: &str,
 ) -> Result<Outcome, AllocError> {
     let mut text = String::with_capacity(alloc, 400)?;
     match step {
-        Step::Command(key, path, call) => write!(text, "{path} {key} {call:?}")?,
-        Step::Text(own) => write!(text, "{own}")?,
-        Step::Refused(refused) => write!(text, "{refused}")?,
+        Ok(Step::Command(key, path, call)) => write!(text, "{path} {key} {call:?}")?,
+        Ok(Step::Text(own)) => write!(text, "{own}")?,
+        Ok(Step::Refused(refused)) => write!(text, "{refused}")?,
+        Err(_) => return Ok(Outcome::OutOfMemory),
     }
     Ok(Outcome::of(text.as_str() == wanted))
 }
@@ -44,17 +45,13 @@ fn check_step(alloc: Global, value: Option<&[u8]>, line: &[u8], wanted: &str) ->
         return out_of_memory_in("the list");
     };
     let commands = Commands::new(Options::new(&GENERAL), TASKS);
-    match commands.answer_request(alloc, Request::new(alloc, value, words), 40) {
-        Ok(step) => check_outcome(
-            step_outcome(alloc, &step, wanted)?,
-            "commands_answer_request",
-        ),
-        Err(_) => out_of_memory_in("commands_answer_request"),
-    }
+    let request = Request::new(alloc, value, words);
+    let outcome = step_outcome(alloc, &commands.answer_request(alloc, request, 40), wanted);
+    check_outcome(outcome?, "commands_answer_request")
 }
 
 // Values of the variable, lines, and what the program does or prints.
-const ROWS: [(Option<&[u8]>, &[u8], &str); 5] = [
+static ROWS: [(Option<&[u8]>, &[u8], &str); 5] = [
     (
         None,
         b"-vo x help add -q",
@@ -88,8 +85,8 @@ const ROWS: [(Option<&[u8]>, &[u8], &str); 5] = [
 
 #[test]
 fn commands(rt: HostRuntime) -> Result<(), Fail> {
-    for (value, line, wanted) in ROWS {
-        check_step(rt.alloc(), value, line, wanted)?;
+    for (value, line, wanted) in ROWS.iter() {
+        check_step(rt.alloc(), *value, line, wanted)?;
     }
     Ok(())
 }

@@ -13,27 +13,20 @@ static MORE: Group<'static, Flag, Value> = declare_group! {
     options: [value(Value::User, Names::Long("user"), "NAME", "whose it is")],
 };
 
-// Adds the contents of an answer: what was read, a text to print, or a mistake. It is a function of
-// its own for a short proof.
-fn write_answer(
-    answer: &Answer<'_, Flag, Value, Word>,
-    text: &mut String,
-) -> Result<(), AllocError> {
-    match answer {
-        Answer::Parsed(parsed) => write!(text, "{parsed:?}"),
-        Answer::Text(given) => text.push_str(given),
-        Answer::Refused(refused) => write!(text, "{refused}"),
-    }
-}
-
-// How a call went that is expected to return an answer with this text.
+// How a call went that is expected to return an answer with this text: what was read, a text to
+// print, or a mistake.
 fn answer_outcome(
     alloc: Global,
-    answer: &Answer<'_, Flag, Value, Word>,
+    answer: &Result<Answer<'_, Flag, Value, Word>, AllocError>,
     wanted: &str,
 ) -> Result<Outcome, AllocError> {
     let mut text = String::with_capacity(alloc, 300)?;
-    write_answer(answer, &mut text)?;
+    match answer {
+        Ok(Answer::Parsed(parsed)) => write!(text, "{parsed:?}")?,
+        Ok(Answer::Text(given)) => text.push_str(given)?,
+        Ok(Answer::Refused(refused)) => write!(text, "{refused}")?,
+        Err(_) => return Ok(Outcome::OutOfMemory),
+    }
     Ok(Outcome::of(text.as_str() == wanted))
 }
 
@@ -44,61 +37,57 @@ fn check_answer(alloc: Global, value: &[u8], line: &[u8], wanted: &str) -> Resul
         return out_of_memory_in("the list");
     };
     let options = Options::new(&PACK);
-    let (answer, call) = if value.is_empty() {
-        (options.answer(alloc, words, 40), "answer")
-    } else {
-        let request = Request::new(alloc, Some(value), words);
-        (options.answer_request(alloc, request, 40), "answer_request")
-    };
-    match answer {
-        Ok(answer) => check_outcome(answer_outcome(alloc, &answer, wanted)?, call),
-        Err(_) => out_of_memory_in(call),
+    if value.is_empty() {
+        let outcome = answer_outcome(alloc, &options.answer(alloc, words, 40), wanted);
+        return check_outcome(outcome?, "answer");
     }
+    let request = Request::new(alloc, Some(value), words);
+    let outcome = answer_outcome(alloc, &options.answer_request(alloc, request, 40), wanted);
+    check_outcome(outcome?, "answer_request")
 }
 
 // A value of the variable, a line, and what is read or printed.
-type Row = (&'static [u8], &'static [u8], &'static str);
-
-#[test]
-fn declared_lines(rt: HostRuntime) -> Result<(), Fail> {
-    let rows: [Row; 7] = [
-        (
-            b"",
-            b"-vo=x --output y -- -f",
-            "[Flag(Verbose), Value(Output, \"x\"), Value(Output, \"y\"), Positional(File, \"-f\")]",
-        ),
-        (
-            b"",
-            b"-h --verbsoe",
-            "Usage: pack [OPTION]... [FILE]...\nPacks.\n\n  \
+static ROWS: [(&[u8], &[u8], &str); 7] = [
+    (
+        b"",
+        b"-vo=x --output y -- -f",
+        "[Flag(Verbose), Value(Output, \"x\"), Value(Output, \"y\"), Positional(File, \"-f\")]",
+    ),
+    (
+        b"",
+        b"-h --verbsoe",
+        "Usage: pack [OPTION]... [FILE]...\nPacks.\n\n  \
             -v, --verbose\n             tell more\n  \
             -o, --output=FILE\n             write to this file\n  \
             -h, --help\n             print this help and exit\n      \
             --version\n             print the version and exit\n",
-        ),
-        (b"", b"-v --version --verbsoe", "pack 1.0\n"),
-        (
-            b"bash_complete",
-            b"-v -o x --",
-            "--verbose\ttell more\n--output\twrite to this file\n\
+    ),
+    (b"", b"-v --version --verbsoe", "pack 1.0\n"),
+    (
+        b"bash_complete",
+        b"-v -o x --",
+        "--verbose\ttell more\n--output\twrite to this file\n\
             --help\tprint this help and exit\n--version\tprint the version and exit\n",
-        ),
-        // An attached value.
-        (b"zsh_complete", b"-vofi", "files\t-vo\n"),
-        (
-            b"",
-            b"--ver",
-            "pack: invalid option '--ver'; did you mean one of '--verbose', '--version'?\n\
+    ),
+    // An attached value.
+    (b"zsh_complete", b"-vofi", "files\t-vo\n"),
+    (
+        b"",
+        b"--ver",
+        "pack: invalid option '--ver'; did you mean one of '--verbose', '--version'?\n\
             Try 'pack --help' for more information.",
-        ),
-        (
-            b"tcsh_source",
-            b"-v",
-            "pack: invalid value of _PACK_COMPLETE: one of bash_source, bash_complete, zsh_source, \
+    ),
+    (
+        b"tcsh_source",
+        b"-v",
+        "pack: invalid value of _PACK_COMPLETE: one of bash_source, bash_complete, zsh_source, \
             zsh_complete, fish_source, fish_complete\nTry 'pack --help' for more information.",
-        ),
-    ];
-    for (value, line, wanted) in &rows {
+    ),
+];
+
+#[test]
+fn declared_lines(rt: HostRuntime) -> Result<(), Fail> {
+    for (value, line, wanted) in ROWS.iter() {
         check_answer(rt.alloc(), value, line, wanted)?;
     }
     Ok(())
@@ -107,14 +96,15 @@ fn declared_lines(rt: HostRuntime) -> Result<(), Fail> {
 // How a call went that is expected to return leading options, and a tail, with this text.
 fn leading_outcome(
     alloc: Global,
-    leading: &Leading<'_, Flag, Value, Word>,
+    leading: &Result<Leading<'_, Flag, Value, Word>, AllocError>,
     wanted: &str,
 ) -> Result<Outcome, AllocError> {
     let mut text = String::with_capacity(alloc, 300)?;
     match leading {
-        Leading::Parsed(parsed, rest) => write!(text, "{parsed:?} {rest:?}")?,
-        Leading::Asked(asked) => write!(text, "{asked:?}")?,
-        Leading::Refused(refused) => write!(text, "{refused}")?,
+        Ok(Leading::Parsed(parsed, rest)) => write!(text, "{parsed:?} {rest:?}")?,
+        Ok(Leading::Asked(asked)) => write!(text, "{asked:?}")?,
+        Ok(Leading::Refused(refused)) => write!(text, "{refused}")?,
+        Err(_) => return Ok(Outcome::OutOfMemory),
     }
     Ok(Outcome::of(text.as_str() == wanted))
 }
@@ -126,10 +116,12 @@ fn declared_leading(rt: HostRuntime) -> Result<(), Fail> {
         return out_of_memory_in("the list");
     };
     let wanted = "[Flag(Verbose), Value(Output, \"x\")] [\"add\", \"-q\", \"--\"]";
-    match Options::new(&PACK).read_leading(alloc, words) {
-        Ok(leading) => check_outcome(leading_outcome(alloc, &leading, wanted)?, "read_leading"),
-        Err(_) => out_of_memory_in("read_leading"),
-    }
+    let outcome = leading_outcome(
+        alloc,
+        &Options::new(&PACK).read_leading(alloc, words),
+        wanted,
+    );
+    check_outcome(outcome?, "read_leading")
 }
 
 // A declaration of four options, with one more of a group.

@@ -2,33 +2,10 @@
 //! again.
 use crate::refused_memory::{Outcome, check_outcome, out_of_memory_in};
 use lexopt::{Error, Parser};
+use std::alloc::Global;
 use std::test::Fail;
-use test_helpers::calls::{reads_long, reads_short, reads_word, takes};
+use test_helpers::calls::{is_at_end, reads_long, reads_short, reads_word, takes};
 use test_helpers::parsers::parser_of;
-
-// How a call went that is expected to report that `-a` has no value.
-fn missing(error: Option<Error>) -> Outcome {
-    match error {
-        Some(
-            Error::MissingValue {
-                option: Some(option),
-            },
-        ) => Outcome::of(option.as_str() == "-a"),
-        Some(Error::OutOfMemory) => Outcome::OutOfMemory,
-        _ => Outcome::Wrong,
-    }
-}
-
-// How a call went that is expected to report that `-a` has the value `b` and takes none.
-fn unexpected(error: Option<Error>) -> Outcome {
-    match error {
-        Some(Error::UnexpectedValue { option, value }) => {
-            Outcome::of(option.as_str() == "-a" && value.as_bytes() == b"b".as_slice())
-        }
-        Some(Error::OutOfMemory) => Outcome::OutOfMemory,
-        _ => Outcome::Wrong,
-    }
-}
 
 // Reads the option `out`, again if memory runs out, and then its value `x`.
 fn read_long_option(parser: &mut Parser) -> Result<Outcome, Error> {
@@ -50,83 +27,96 @@ fn long_option(rt: HostRuntime) -> Result<(), Fail> {
     check_outcome(read_long_option(&mut parser)?, "next")
 }
 
-// Reads `-a`, whose value `next` then reports, and the word `c` after it.
-fn read_past_unexpected_value(parser: &mut Parser) -> Result<Outcome, Error> {
+// A call after the option `-a` was read.
+#[derive(Clone, Copy)]
+enum Call {
+    // These report that `-a` has the value `b` and takes none.
+    Next,
+    RawArgs,
+    // These report that `-a` has no value.
+    Value,
+    Values,
+}
+
+// The error of this call.
+fn error_of(parser: &mut Parser, call: Call) -> Option<Error> {
+    match call {
+        Call::Next => parser.next().err(),
+        Call::RawArgs => parser.raw_args().err(),
+        Call::Value => parser.value().err(),
+        Call::Values => parser.values().err(),
+    }
+}
+
+// How this call goes.
+fn outcome_of(parser: &mut Parser, call: Call) -> Outcome {
+    match (error_of(parser, call), call) {
+        (Some(Error::UnexpectedValue { option, value }), Call::Next | Call::RawArgs) => {
+            Outcome::of(option.as_str() == "-a" && value.as_bytes() == b"b".as_slice())
+        }
+        (
+            Some(
+                Error::MissingValue {
+                    option: Some(option),
+                },
+            ),
+            Call::Value | Call::Values,
+        ) => Outcome::of(option.as_str() == "-a"),
+        (Some(Error::OutOfMemory), _) => Outcome::OutOfMemory,
+        _ => Outcome::Wrong,
+    }
+}
+
+// Whether the parser then reads what comes after the option and its value.
+fn reads_on(parser: &mut Parser, call: Call) -> Result<bool, Error> {
+    match call {
+        Call::Next => reads_word(parser, b"c"),
+        Call::RawArgs => takes(parser, b"c"),
+        Call::Value => is_at_end(parser),
+        Call::Values => reads_short(parser, 'b'),
+    }
+}
+
+// Reads `-a`, makes this call, again if memory runs out, and reads on. If memory runs out, a value
+// of `-a` stays pending.
+fn read_past(parser: &mut Parser, call: Call) -> Result<Outcome, Error> {
     let is_read = reads_short(parser, 'a')?;
-    let first = unexpected(parser.next().err());
-    let outcome = match first {
-        Outcome::OutOfMemory => first.and_again(unexpected(parser.next().err())),
-        _ => first,
+    let mut outcome = outcome_of(parser, call);
+    if let Outcome::OutOfMemory = outcome {
+        let is_pending = parser.try_raw_args().is_none();
+        let second = outcome_of(parser, call);
+        let has_value = matches!(call, Call::Next | Call::RawArgs);
+        outcome = outcome.and_again(second).only_if(is_pending == has_value);
+    }
+    Ok(outcome.only_if(is_read && reads_on(parser, call)?))
+}
+
+// Makes this call on a line of these words.
+fn check_call(alloc: Global, words: &[&[u8]], call: Call, name: &str) -> Result<(), Fail> {
+    let Ok(mut parser) = parser_of(alloc, words) else {
+        return out_of_memory_in("from_args");
     };
-    Ok(outcome.only_if(is_read && reads_word(parser, b"c")?))
+    check_outcome(read_past(&mut parser, call)?, name)
 }
 
 #[test]
 fn unexpected_value(rt: HostRuntime) -> Result<(), Fail> {
-    let Ok(mut parser) = parser_of(rt.alloc(), &[b"-a=b", b"c"]) else {
-        return out_of_memory_in("from_args");
-    };
-    check_outcome(read_past_unexpected_value(&mut parser)?, "next")
-}
-
-// Takes the value of `-a`, which has none, and again if memory runs out.
-fn take_missing_value(parser: &mut Parser) -> Outcome {
-    let first = missing(parser.value().err());
-    match first {
-        Outcome::OutOfMemory => first.and_again(missing(parser.value().err())),
-        _ => first,
-    }
+    check_call(rt.alloc(), &[b"-a=b", b"c"], Call::Next, "next")
 }
 
 #[test]
 fn missing_value(rt: HostRuntime) -> Result<(), Fail> {
-    let Ok(mut parser) = parser_of(rt.alloc(), &[b"-a"]) else {
-        return out_of_memory_in("from_args");
-    };
-    assert!(rt; reads_short(&mut parser, 'a')?);
-    check_outcome(take_missing_value(&mut parser), "value")
-}
-
-// Takes the values of `-a`, which has none, and then reads `-b`.
-fn read_past_missing_values(parser: &mut Parser) -> Result<Outcome, Error> {
-    let is_read = reads_short(parser, 'a')?;
-    let first = missing(parser.values().err());
-    let outcome = match first {
-        Outcome::OutOfMemory => first.and_again(missing(parser.values().err())),
-        _ => first,
-    };
-    Ok(outcome.only_if(is_read && reads_short(parser, 'b')?))
+    check_call(rt.alloc(), &[b"-a"], Call::Value, "value")
 }
 
 // If there is no value, `values` allocates only for the error.
 #[test]
 fn missing_values(rt: HostRuntime) -> Result<(), Fail> {
-    let Ok(mut parser) = parser_of(rt.alloc(), &[b"-a", b"-b"]) else {
-        return out_of_memory_in("from_args");
-    };
-    check_outcome(read_past_missing_values(&mut parser)?, "values")
+    check_call(rt.alloc(), &[b"-a", b"-b"], Call::Values, "values")
 }
 
-// Calls `raw_args` while a value is pending, which it reports and drops; `value` then takes the
-// next word. If memory runs out, the value stays pending.
-fn drop_pending_value(parser: &mut Parser) -> Result<Outcome, Error> {
-    let is_read = reads_short(parser, 'a')?;
-    let first = unexpected(parser.raw_args().err());
-    let outcome = match first {
-        Outcome::OutOfMemory => {
-            let is_pending = parser.try_raw_args().is_none();
-            let second = unexpected(parser.raw_args().err());
-            first.and_again(second).only_if(is_pending)
-        }
-        _ => first,
-    };
-    Ok(outcome.only_if(is_read && takes(parser, b"c")?))
-}
-
+// `raw_args` drops the value, and `value` then takes the next word.
 #[test]
 fn pending_value(rt: HostRuntime) -> Result<(), Fail> {
-    let Ok(mut parser) = parser_of(rt.alloc(), &[b"-ab", b"c"]) else {
-        return out_of_memory_in("from_args");
-    };
-    check_outcome(drop_pending_value(&mut parser)?, "raw_args")
+    check_call(rt.alloc(), &[b"-ab", b"c"], Call::RawArgs, "raw_args")
 }

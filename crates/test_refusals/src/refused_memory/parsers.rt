@@ -13,28 +13,31 @@ fn reads_named(parser: &mut Parser, name: &str, option: char) -> Result<bool, Er
     Ok(parser.bin_name() == Some(name) && reads_short(parser, option)?)
 }
 
-#[test]
-fn named_parser(rt: HostRuntime) -> Result<(), Fail> {
-    match named(rt.alloc(), &[b"foo\xff", b"-x"]) {
-        Ok(mut parser) => {
-            assert!(rt; reads_named(&mut parser, "foo\u{FFFD}", 'x')?);
-            Ok(())
-        }
-        Err(Error::OutOfMemory) => out_of_memory_in("from_iter"),
-        Err(_) => Err(Fail::new("from_iter returned another error")),
+// How a call went that is expected to make a parser with a name.
+fn made_outcome(made: &Result<Parser, Error>) -> Outcome {
+    match made {
+        Ok(parser) => Outcome::of(parser.bin_name().is_some()),
+        Err(Error::OutOfMemory) => Outcome::OutOfMemory,
+        Err(_) => Outcome::Wrong,
     }
 }
 
 #[test]
+fn named_parser(rt: HostRuntime) -> Result<(), Fail> {
+    let mut made = named(rt.alloc(), &[b"foo\xff", b"-x"]);
+    let is_read = match &mut made {
+        Ok(parser) => reads_named(parser, "foo\u{FFFD}", 'x'),
+        Err(_) => Ok(true),
+    };
+    check_outcome(
+        made_outcome(&made).only_if(matches!(is_read, Ok(true))),
+        "from_iter",
+    )
+}
+
+#[test]
 fn parser_of_the_environment(rt: HostRuntime) -> Result<(), Fail> {
-    match Parser::from_env(&rt, rt.alloc()) {
-        Ok(parser) => {
-            assert!(rt; parser.bin_name().is_some());
-            Ok(())
-        }
-        Err(Error::OutOfMemory) => out_of_memory_in("from_env"),
-        Err(_) => Err(Fail::new("from_env returned another error")),
-    }
+    check_outcome(made_outcome(&Parser::from_env(&rt, rt.alloc())), "from_env")
 }
 
 // The name and the words of an environment. They have damage, are empty, and are longer than the
@@ -74,13 +77,17 @@ fn make_parser(alloc: Global, words: &[OsString]) -> Result<Outcome, Error> {
 }
 
 // All words of an environment are returned, or none if memory runs out.
+fn check_environment(alloc: Global, words: &[OsString]) -> Result<(), Fail> {
+    check_outcome(take_arguments(alloc, words)?, "arguments")?;
+    check_outcome(make_parser(alloc, words)?, "from_env_os")
+}
+
 #[test]
 fn words_of_an_environment(rt: HostRuntime) -> Result<(), Fail> {
-    let Ok(words) = words_from(rt.alloc(), &GIVEN) else {
-        return out_of_memory_in("the list");
-    };
-    check_outcome(take_arguments(rt.alloc(), &words)?, "arguments")?;
-    check_outcome(make_parser(rt.alloc(), &words)?, "from_env_os")
+    match words_from(rt.alloc(), &GIVEN) {
+        Ok(words) => check_environment(rt.alloc(), &words),
+        Err(_) => out_of_memory_in("the list"),
+    }
 }
 
 // Copies a parser. The copy, if there is one, and the parser itself have the name `foo` and read
