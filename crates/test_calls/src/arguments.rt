@@ -45,7 +45,7 @@ fn word_of_length(alloc: Global, length: usize, first: u8) -> Result<OsString, A
 }
 
 // Lines, each with the name of its parser.
-const LINES: [(&[&[u8]], Option<&str>); 8] = [
+static LINES: [(&[&[u8]], Option<&str>); 8] = [
     (&[], None),
     (&[b""], Some("")),
     (&[b"", b"", b"a", b""], Some("")),
@@ -61,10 +61,10 @@ const LINES: [(&[&[u8]], Option<&str>); 8] = [
 
 #[test]
 fn lines_of_any_bytes(rt: HostRuntime) {
-    for (line, name) in LINES {
+    for (line, name) in LINES.iter() {
         let words = words_from(rt.alloc(), line).expect(&rt, "success");
         assert!(rt;
-            are_read(rt.alloc(), &words, name).expect(&rt, "success"),
+            are_read(rt.alloc(), &words, *name).expect(&rt, "success"),
             "{line:?}"
         );
     }
@@ -108,14 +108,8 @@ fn numbered_words(alloc: Global, count: usize) -> Result<Vec<OsString>, AllocErr
 
 #[test]
 fn many_words(rt: HostRuntime) {
-    assert!(rt;
-        are_read(
-            rt.alloc(),
-            &numbered_words(rt.alloc(), 2_000).expect(&rt, "success"),
-            Some("0")
-        )
-        .expect(&rt, "success")
-    );
+    let words = numbered_words(rt.alloc(), 2_000).expect(&rt, "success");
+    assert!(rt; are_read(rt.alloc(), &words, Some("0")).expect(&rt, "success"));
 }
 
 // Whether an error is a `Custom` error that prints this message.

@@ -13,27 +13,30 @@ fn first(bytes: &[u8]) -> (Option<char>, usize) {
     }
 }
 
+// Bytes, and what comes first in them.
+static PIECES: [(&[u8], Option<char>, usize); 16] = [
+    (b"", None, 0),
+    (b"a\xffc", Some('a'), 1),
+    (b"\xc2\xb5", Some('µ'), 2),
+    (b"\xef\xbf\xbd", Some('\u{FFFD}'), 3),
+    (b"\xf0\x9d\x84\x9e", Some('\u{1D11E}'), 4),
+    (b"\xffc", None, 1),
+    (b"\xc2", None, 1),
+    (b"\xc2a", None, 1),
+    (b"\xf0", None, 1),
+    (b"\xf0\x9d", None, 2),
+    (b"\xf0\x9d\x84", None, 3),
+    (b"\xf0\x9da", None, 2),
+    (b"\xf0\x9d\x84a", None, 3),
+    (b"\xed\xa0\x80", None, 1),
+    (b"\xa0\x80", None, 1),
+    (b"\x80", None, 1),
+];
+
 #[test]
 fn first_pieces(rt: HostRuntime) {
-    for (bytes, character, length) in [
-        (b"".as_slice(), None, 0),
-        (b"a\xffc", Some('a'), 1),
-        (b"\xc2\xb5", Some('µ'), 2),
-        (b"\xef\xbf\xbd", Some('\u{FFFD}'), 3),
-        (b"\xf0\x9d\x84\x9e", Some('\u{1D11E}'), 4),
-        (b"\xffc", None, 1),
-        (b"\xc2", None, 1),
-        (b"\xc2a", None, 1),
-        (b"\xf0", None, 1),
-        (b"\xf0\x9d", None, 2),
-        (b"\xf0\x9d\x84", None, 3),
-        (b"\xf0\x9da", None, 2),
-        (b"\xf0\x9d\x84a", None, 3),
-        (b"\xed\xa0\x80", None, 1),
-        (b"\xa0\x80", None, 1),
-        (b"\x80", None, 1),
-    ] {
-        assert_eq!(rt; first(bytes), (character, length), "{bytes:?}");
+    for (bytes, character, length) in PIECES.iter() {
+        assert!(rt; first(bytes) == (*character, *length), "{bytes:?}");
     }
 }
 

@@ -54,7 +54,7 @@ fn is_converted(
 
 const DAMAGED: &str = "argument is invalid unicode: \"foo\\xFF\"";
 
-const ROWS: [(Call, &[u8], Result<i32, &str>); 10] = [
+static ROWS: [(Call, &[u8], Result<i32, &str>); 10] = [
     (Call::Text, b"", Ok(0)),
     (Call::Text, b"-10", Ok(3)),
     (Call::Text, b"foo\xff", Err(DAMAGED)),
@@ -78,9 +78,9 @@ const ROWS: [(Call, &[u8], Result<i32, &str>); 10] = [
 
 #[test]
 fn conversions(rt: HostRuntime) {
-    for (call, word, wanted) in ROWS {
+    for (call, word, wanted) in ROWS.iter() {
         assert!(rt;
-            is_converted(rt.alloc(), call, word, wanted).expect(&rt, "success"),
+            is_converted(rt.alloc(), *call, word, *wanted).expect(&rt, "success"),
             "{word:?}: {wanted:?}"
         );
     }

@@ -52,7 +52,7 @@ fn error_of(rt: &(impl Abort + AllocGlobal), made: Made) -> Error {
     }
 }
 
-const MESSAGES: [(Made, &str); 11] = [
+static MESSAGES: [(Made, &str); 11] = [
     (Made::MissingOf("-\""), "missing argument for option '-\"'"),
     (Made::OfShort('o'), "invalid option '-o'"),
     (Made::OfLong("opt"), "invalid option '--opt'"),
@@ -88,19 +88,15 @@ fn has_message(rt: &(impl Abort + AllocGlobal), made: Made, message: &str) -> bo
 
 #[test]
 fn messages(rt: HostRuntime) {
-    for (made, message) in MESSAGES {
-        assert!(rt; has_message(&rt, made, message), "{message}");
+    for (made, message) in MESSAGES.iter() {
+        assert!(rt; has_message(&rt, *made, message), "{message}");
     }
 }
 
 // Whether `anyhow` keeps the first bytes of a message of 121 bytes, but not all of them.
 fn keeps_a_front(alloc: Global) -> Result<bool, AllocError> {
-    let mut text = String::new(alloc);
-    for _ in 0..121 {
-        text.push('x')?;
-    }
-    let whole = text.clone()?;
-    let kept = Error::from(text).to_string(alloc)?;
+    let whole = "x".repeat(alloc, 121)?;
+    let kept = Error::from(whole.clone()?).to_string(alloc)?;
     Ok(kept.as_str() != whole.as_str() && kept.as_bytes().get(..100) == whole.as_bytes().get(..100))
 }
 
@@ -124,11 +120,6 @@ fn causes(rt: HostRuntime) {
     assert!(rt; has_cause(&rt, Made::OfShort('o'), None));
 }
 
-// Whether the error of a script prints this message.
-fn run_error_prints(alloc: Global, error: &RunError, message: &str) -> Result<bool, AllocError> {
-    Ok(error.to_string(alloc)?.as_str() == message)
-}
-
 #[test]
 fn run_errors(rt: HostRuntime) {
     for (error, message, status) in [
@@ -138,10 +129,8 @@ fn run_errors(rt: HostRuntime) {
         (RunError::WriteFailed, "write failed", 1),
         (RunError::from(AllocError), "out of memory", 1),
     ] {
-        assert!(rt;
-            run_error_prints(rt.alloc(), &error, message).expect(&rt, "success"),
-            "{message}"
-        );
+        let printed = error.to_string(rt.alloc()).expect(&rt, "success");
+        assert_eq!(rt; printed.as_str(), message);
         assert_eq!(rt; error.status(), status);
     }
 }

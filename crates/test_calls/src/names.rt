@@ -9,7 +9,7 @@ fn has_name(alloc: Global, words: &[&[u8]], name: Option<&str>) -> Result<bool, 
 }
 
 // Words, and the name of their parser.
-const NAMES: [(&[&[u8]], Option<&str>); 16] = [
+static NAMES: [(&[&[u8]], Option<&str>); 16] = [
     (&[], None),
     (&[b""], Some("")),
     (&[b"foo", b"-x"], Some("foo")),
@@ -30,9 +30,9 @@ const NAMES: [(&[&[u8]], Option<&str>); 16] = [
 
 #[test]
 fn names(rt: HostRuntime) {
-    for (words, name) in NAMES {
+    for (words, name) in NAMES.iter() {
         assert!(rt;
-            has_name(rt.alloc(), words, name).expect(&rt, "success"),
+            has_name(rt.alloc(), words, *name).expect(&rt, "success"),
             "{words:?}"
         );
     }

@@ -60,7 +60,7 @@ fn at_fault(rt: HostRuntime) {
     assert!(rt; error_past_the_separator(rt.alloc()).expect(&rt, "success") == Some(fault));
 }
 
-const MESSAGES: [(Reason, &str); 10] = [
+static MESSAGES: [(Reason, &str); 10] = [
     (
         Reason::EqualsInName,
         "a long option cannot have `=` in its name",
@@ -105,9 +105,9 @@ const MESSAGES: [(Reason, &str); 10] = [
 
 #[test]
 fn messages(rt: HostRuntime) {
-    for (reason, message) in MESSAGES {
+    for (reason, message) in MESSAGES.iter() {
         let printed = reason.to_string(rt.alloc()).expect(&rt, "success");
-        assert_eq!(rt; printed.as_str(), message);
+        assert_eq!(rt; printed.as_str(), *message);
     }
     let fault = SpellError::AtFault {
         index: 7,

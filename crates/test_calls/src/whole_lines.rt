@@ -36,13 +36,15 @@ fn text_of(rt: &(impl Abort + AllocGlobal), words: &[u8]) -> String {
     }
 }
 
+static LINES: [(&[u8], &str); 3] = [
+    (b"-a- v", "Short \"a\"\nShort \"-\" = \"v\"\n"),
+    (b"-a-", "missing argument for option '--'"),
+    (b"--a=b", "unexpected argument for option '--a': \"b\""),
+];
+
 #[test]
 fn one_value_each(rt: HostRuntime) {
-    for (words, text) in [
-        (b"-a- v".as_slice(), "Short \"a\"\nShort \"-\" = \"v\"\n"),
-        (b"-a-", "missing argument for option '--'"),
-        (b"--a=b", "unexpected argument for option '--a': \"b\""),
-    ] {
-        assert_eq!(rt; text_of(&rt, words).as_str(), text);
+    for (words, text) in LINES.iter() {
+        assert_eq!(rt; text_of(&rt, words).as_str(), *text);
     }
 }

@@ -77,17 +77,19 @@ fn has_text(alloc: Global, bytes: &[u8], text: Option<&str>) -> Result<bool, All
     )
 }
 
+static TEXTS: [(&[u8], Option<&str>); 5] = [
+    (b"", Some("")),
+    (b"\xf0\x9d\x84\x9e", Some("\u{1d11e}")),
+    (b"\xef\xbf\xbd", Some("\u{fffd}")),
+    (b"foo\xff", None),
+    (b"\xed\xa0\x80", None),
+];
+
 #[test]
 fn texts_of_words(rt: HostRuntime) {
-    for (bytes, text) in [
-        (b"".as_slice(), Some("")),
-        (b"\xf0\x9d\x84\x9e", Some("\u{1d11e}")),
-        (b"\xef\xbf\xbd", Some("\u{fffd}")),
-        (b"foo\xff", None),
-        (b"\xed\xa0\x80", None),
-    ] {
+    for (bytes, text) in TEXTS.iter() {
         assert!(rt;
-            has_text(rt.alloc(), bytes, text).expect(&rt, "memory"),
+            has_text(rt.alloc(), bytes, *text).expect(&rt, "memory"),
             "{bytes:?}"
         );
     }
@@ -112,21 +114,23 @@ fn is_printed(
 }
 
 // The worked examples of `lexopt_laws` have each escape.
+static PRINTED: [(&[u8], &str, &str); 3] = [
+    (b"", "\"\"", "\"\""),
+    (
+        b"a\"\\\t\n\r\0\x1b\x01\x7f'\xc2\xb5\xf0\x9d",
+        "\"a\\\"\\\\\\t\\n\\r\\0\\u{1b}\\u{1}\\u{7f}'µ\\xF0\\x9D\"",
+        "\"a\\\"\\\\\\t\\n\\r\\0\\u{1b}\\u{1}\\u{7f}'µ\\xF0\\x9D\"",
+    ),
+    (
+        b"\xc2\x9b\xe2\x80\xae ",
+        "\"\u{9b}\u{202e} \"",
+        "\"\\u{9b}\\u{202e} \"",
+    ),
+];
+
 #[test]
 fn printed_bytes(rt: HostRuntime) {
-    for (bytes, quoted, visible) in [
-        (b"".as_slice(), "\"\"", "\"\""),
-        (
-            b"a\"\\\t\n\r\0\x1b\x01\x7f'\xc2\xb5\xf0\x9d",
-            "\"a\\\"\\\\\\t\\n\\r\\0\\u{1b}\\u{1}\\u{7f}'µ\\xF0\\x9D\"",
-            "\"a\\\"\\\\\\t\\n\\r\\0\\u{1b}\\u{1}\\u{7f}'µ\\xF0\\x9D\"",
-        ),
-        (
-            b"\xc2\x9b\xe2\x80\xae ",
-            "\"\u{9b}\u{202e} \"",
-            "\"\\u{9b}\\u{202e} \"",
-        ),
-    ] {
+    for (bytes, quoted, visible) in PRINTED.iter() {
         assert!(rt;
             is_printed(rt.alloc(), bytes, quoted, visible).expect(&rt, "memory"),
             "{quoted}"
