@@ -23,7 +23,7 @@ use crate::lines::pieces::push_quoted;
 use crate::lines::plain::Refusal;
 use crate::lines::tables::{CHOICES, Choice, OVERLAPS};
 use crate::lines::tally::Tally;
-use lexopt_base::{Error, OsString};
+use lexopt_base::Error;
 use lexopt_items::items::{Item, Table, read_items};
 use std::alloc::{AllocError, Global};
 use std::io;
@@ -31,43 +31,17 @@ use test_helpers::lists::list_of;
 use test_helpers::parsers::words_from;
 use test_helpers::words::WORDS;
 
-// Whether `read_items` refuses the line with this message.
-fn is_refused_with(
-    alloc: Global,
-    message: &String,
-    words: Vec<OsString>,
-    short_equals: bool,
-    table: &Table,
-) -> Result<bool, AllocError> {
-    match read_items(alloc, words, short_equals, table) {
-        Ok(_items) => Ok(false),
-        Err(Error::OutOfMemory) => Err(AllocError),
-        Err(error) => Ok(error.to_string(alloc)? == *message),
-    }
-}
-
-// Whether `read_items` reads the words as the plain reader does.
+// Whether both readers read the same items, or refuse the line with the same message.
 fn agree(
     alloc: Global,
     plain: &Result<Vec<Item>, Refusal>,
-    words: Vec<OsString>,
-    short_equals: bool,
-    table: &Table,
+    found: &Result<Vec<Item>, Error>,
 ) -> Result<bool, AllocError> {
-    match plain {
-        Ok(items) => match read_items(alloc, words, short_equals, table) {
-            Ok(found) => Ok(found == *items),
-            Err(Error::OutOfMemory) => Err(AllocError),
-            Err(_error) => Ok(false),
-        },
-        Err(Refusal::Message(message)) => is_refused_with(
-            alloc,
-            message,
-            words,
-            short_equals,
-            table,
-        ),
-        Err(Refusal::NoMemory) => Err(AllocError),
+    match (plain, found) {
+        (Err(Refusal::NoMemory), _) | (_, Err(Error::OutOfMemory)) => Err(AllocError),
+        (Ok(items), Ok(found)) => Ok(found == items),
+        (Err(Refusal::Message(message)), Err(error)) => Ok(error.to_string(alloc)? == *message),
+        _ => Ok(false),
     }
 }
 
@@ -93,7 +67,12 @@ impl Tally {
     ) -> Result<(), AllocError> {
         let copied = words_from(alloc, words)?;
         let plain = plain::read(alloc, words, short_equals, table);
-        if agree(alloc, &plain, copied, short_equals, table)? {
+        let agrees = agree(
+            alloc,
+            &plain,
+            &read_items(alloc, copied, short_equals, table),
+        )?;
+        if agrees {
             self.agree();
         } else {
             self.differ(shown_words(alloc, words, short_equals)?);
@@ -132,8 +111,8 @@ pub fn print_lists(rt: &(impl Print + AllocGlobal), end: usize) -> io::Result<()
     for number in 0..CHOICES {
         total.add(&Choice::of_kinds(number).read(rt, end)?);
     }
-    for lists in OVERLAPS {
-        total.add(&Choice::same(lists).read(rt, end)?);
+    for lists in OVERLAPS.iter() {
+        total.add(&Choice::same(*lists).read(rt, end)?);
     }
     total.print(rt, "total")
 }

@@ -92,8 +92,8 @@ impl Tried {
             let Some(place) = places.pop() else {
                 break;
             };
-            for step in STEPS {
-                if let Some(next) = self.step(alloc, &place, step)? {
+            for step in STEPS.iter() {
+                if let Some(next) = self.step(alloc, &place, *step)? {
                     places.push(next)?;
                 }
             }

@@ -8,7 +8,7 @@ use test_helpers::calls::{is_at_end, reads_short};
 use test_helpers::parsers::parser_of;
 
 // The bytes at both ends of the ranges of table 3-7, and bytes that are in no row of the table.
-const BYTES: [u8; 20] = [
+static BYTES: [u8; 20] = [
     0x41, 0x7F, 0x80, 0x8F, 0x90, 0x9F, 0xA0, 0xBF, 0xC1, 0xC2, 0xDF, 0xE0, 0xE1, 0xED, 0xEE, 0xF0,
     0xF1, 0xF4, 0xF5, 0xFF,
 ];
@@ -53,10 +53,10 @@ fn read(alloc: Global, tally: &mut Tally, bytes: &[u8]) -> Result<(), Error> {
 // Reads these two bytes, alone and with one or two bytes after them.
 fn read_longer(alloc: Global, tally: &mut Tally, first: u8, second: u8) -> Result<(), Error> {
     read(alloc, tally, &[first, second])?;
-    for third in BYTES {
-        read(alloc, tally, &[first, second, third])?;
-        for fourth in BYTES {
-            read(alloc, tally, &[first, second, third, fourth])?;
+    for third in BYTES.iter() {
+        read(alloc, tally, &[first, second, *third])?;
+        for fourth in BYTES.iter() {
+            read(alloc, tally, &[first, second, *third, *fourth])?;
         }
     }
     Ok(())
@@ -65,10 +65,10 @@ fn read_longer(alloc: Global, tally: &mut Tally, first: u8, second: u8) -> Resul
 /// Reads each list of one to four of the bytes as a cluster.
 pub fn read_all(alloc: Global) -> Result<Tally, Error> {
     let mut tally = Tally::new();
-    for first in BYTES {
-        read(alloc, &mut tally, &[first])?;
-        for second in BYTES {
-            read_longer(alloc, &mut tally, first, second)?;
+    for first in BYTES.iter() {
+        read(alloc, &mut tally, &[*first])?;
+        for second in BYTES.iter() {
+            read_longer(alloc, &mut tally, *first, *second)?;
         }
     }
     Ok(tally)

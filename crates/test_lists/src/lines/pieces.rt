@@ -2,7 +2,7 @@
 use std::alloc::{AllocError, Global};
 
 // The rows of the table: the least and the greatest value of each byte of a character.
-const ROWS: [&[(u8, u8)]; 9] = [
+static ROWS: [&[(u8, u8)]; 9] = [
     &[(0x00, 0x7F)],
     &[(0xC2, 0xDF), (0x80, 0xBF)],
     &[(0xE0, 0xE0), (0xA0, 0xBF), (0x80, 0xBF)],
@@ -77,7 +77,7 @@ pub fn first_piece(bytes: &[u8]) -> Option<Piece<'_>> {
         return None;
     }
     let mut longest = 1;
-    for row in ROWS {
+    for row in ROWS.iter() {
         let count = fitting(row, bytes);
         if count == row.len() {
             return Some(piece_of(bytes, count, true));

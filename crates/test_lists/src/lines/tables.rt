@@ -8,7 +8,7 @@ use std::alloc::{AllocError, Global};
 pub struct Lists(&'static str, bool, bool, bool);
 
 // Options that are in one list, or in none.
-const KINDS: [Lists; 4] = [
+static KINDS: [Lists; 4] = [
     Lists("none", false, false, false),
     Lists("one", true, false, false),
     Lists("optional", false, true, false),
@@ -16,34 +16,22 @@ const KINDS: [Lists; 4] = [
 ];
 
 /// Options that are in lists of two or three kinds.
-pub const OVERLAPS: [Lists; 4] = [
+pub static OVERLAPS: [Lists; 4] = [
     Lists("one and optional", true, true, false),
     Lists("one and several", true, false, true),
     Lists("optional and several", false, true, true),
     Lists("all", true, true, true),
 ];
 
-// A group of short and long options.
+// A group of short options and of long options.
 #[derive(Clone, Copy)]
-struct Options {
-    shorts: &'static str,
-    longs: &'static [&'static str],
-}
+struct Options(&'static str, &'static [&'static str]);
 
-const LETTER: Options = Options {
-    shorts: "a",
-    longs: &["a"],
-};
+const LETTER: Options = Options("a", &["a"]);
 
-const DAMAGE: Options = Options {
-    shorts: "\u{FFFD}",
-    longs: &["\u{FFFD}"],
-};
+const DAMAGE: Options = Options("\u{FFFD}", &["\u{FFFD}"]);
 
-const MARKS: Options = Options {
-    shorts: "-=",
-    longs: &["", "-"],
-};
+const MARKS: Options = Options("-=", &["", "-"]);
 
 /// A table: the lists that have the letter, the character U+FFFD, and the marks.
 #[derive(Clone, Copy)]
@@ -62,10 +50,10 @@ fn add_to(
     shorts: &mut Vec<char>,
     longs: &mut Vec<String>,
 ) -> Result<(), AllocError> {
-    for option in options.shorts.chars() {
+    for option in options.0.chars() {
         shorts.push(option)?;
     }
-    for name in options.longs {
+    for name in options.1 {
         longs.push(String::from_str(alloc, name)?)?;
     }
     Ok(())

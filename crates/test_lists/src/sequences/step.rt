@@ -16,7 +16,7 @@ pub enum Step {
     Values,
 }
 
-pub const STEPS: [Step; 4] = [Step::Next, Step::Value, Step::Optional, Step::Values];
+pub static STEPS: [Step; 4] = [Step::Next, Step::Value, Step::Optional, Step::Values];
 
 // The reply for an error of the parser. Any other error, such as `OutOfMemory`, is returned.
 fn refusal(error: Error) -> Result<Reply, Error> {
