@@ -407,8 +407,8 @@ pub struct Spelling {
     pub place: usize,
 }
 
-/// Whether a spelling after these words is read as its option, without a value so far, after `count`
-/// other items.
+/// Whether a spelling after these words is read as its option, without a value so far, after this
+/// many other items.
 pub fn ends_in_option(
     alloc: Global,
     plan: &'static Plan,

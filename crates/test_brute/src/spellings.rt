@@ -1,8 +1,8 @@
 //! The spellings and values that are offered, compared with the plain reader.
 use crate::ends::owners_after;
 use crate::plain::{
-    Item, Key, Next, Place, Plan, Spelling, Typed, ends_in_option, list_at, next_after, place_of,
-    read,
+    Item, Key, Next, Place, Plan, Reading, Spelling, Typed, ends_in_option, list_at, next_after,
+    place_of, read,
 };
 use crate::plans::{FRONTS, SPELLINGS, TAILS, WORDS, plans};
 use crate::words_of;
@@ -69,7 +69,7 @@ fn can_come(
     if !ends_in_option(alloc, plan, before, spelling, front.len())? {
         return Ok(false);
     }
-    for after in TAILS {
+    for after in TAILS.iter() {
         if goes_on(alloc, plan, before, front, spelling, after)? {
             return Ok(true);
         }
@@ -84,21 +84,19 @@ fn can_come(
     Ok(false)
 }
 
-// The spellings that can come after these words, in the order of the declaration.
+// The spellings that can come after these words, which are read so.
 fn possible_spellings(
     alloc: Global,
     plan: &'static Plan,
     before: &[&'static str],
+    front: &Reading<'static>,
 ) -> Result<Vec<Spelling>, AllocError> {
     let mut found = Vec::new(alloc);
-    let front = read(alloc, plan, before)?;
-    if front.mistake.is_some() {
-        return Ok(found);
-    }
     for (place, option) in plan.options.iter().enumerate() {
-        for text in SPELLINGS {
+        for text in SPELLINGS.iter() {
             let spelling = Spelling { text, place };
-            if !option.hidden
+            if front.mistake.is_none()
+                && !option.hidden
                 && place_of_spelling(plan, text) == Some(place)
                 && can_come(alloc, plan, before, &front.items, spelling)?
             {
@@ -116,7 +114,7 @@ fn possible_after(
     before: &[&'static str],
 ) -> Result<Possible, AllocError> {
     let (next, count) = next_after(alloc, plan, before)?;
-    let spellings = possible_spellings(alloc, plan, before)?;
+    let spellings = possible_spellings(alloc, plan, before, &read(alloc, plan, before)?)?;
     let (owners, words) = owners_after(alloc, plan, count)?;
     Ok(Possible {
         spellings,
@@ -263,7 +261,7 @@ fn count_right_after(
 ) -> Result<usize, AllocError> {
     let possible = possible_after(alloc, plan, before)?;
     let mut right = 0usize;
-    for typed in FRONTS {
+    for typed in FRONTS.iter() {
         let word = OsString::from_bytes(alloc, typed.as_bytes())?;
         let completion = options.complete(alloc, words_of(alloc, before)?, &word)?;
         if is_right(alloc, plan, &possible, typed, &completion)? {
