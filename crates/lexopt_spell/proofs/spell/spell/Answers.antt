@@ -1,4 +1,4 @@
-use Rattle.std.proofs.Common.{map, inr, rules}
+use Rattle.std.proofs.Common.{arith, map, inr, rules}
 use Rattle.lexopt_line_spec.proofs.SpellerSound.{words_spell}
 use Rattle.lexopt_line_spec.proofs.SpellerFaults.{words_read, words_said, fault_named}
 use Rattle.lexopt_items.specs.Items.{item_view, table_view}
@@ -24,7 +24,7 @@ loop-index-preserved c =
 
 pub returns-clause-form : goal.returns-clause-form
 returns-clause-form c =
-    all_spelled item_view (table_view c.args.table.now) c.args.short_equals c.args.items.now c.loop-index.index (place_view c.loop-index.place) c.loop-index.words.items c.loop-index-test.false
+    all_spelled item_view (table_view c.args.table.now) c.args.short_equals c.args.items.now c.loop-index.index (place_view c.loop-index.place) c.loop-index.words.items (grind arith)
     c.loop-index.invariant
 
 pub returns-clause-spelled : goal.returns-clause-spelled
