@@ -1,4 +1,0 @@
-pub mod AnyLines
-pub mod TaskHelp
-pub mod TaskLines
-pub mod TypedTasks

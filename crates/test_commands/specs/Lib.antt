@@ -1,3 +1,0 @@
-pub mod AnyCommands
-pub mod Tasks
-pub mod Texts

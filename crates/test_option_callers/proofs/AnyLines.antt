@@ -1,0 +1,122 @@
+-- Lines of any commands, by the clauses of `Commands::read` and `Commands::answer_request`.
+use Rattle.std.proofs.Common.{◌≡◌, ℕ, List, [], None, Some, string_bytes, sym, subst, ⊎_elim, inl, inr}
+use Rattle.std.specs.declared.convert.Infallible.{Infallible}
+use Rattle.lexopt_options_spec.specs.Asking.{first_asked}
+use Rattle.lexopt_options_spec.specs.Declaration as spec
+use Rattle.lexopt_options_spec.specs.Declaration.{for_help, for_version}
+use Rattle.lexopt_options_spec.specs.Leading.{MeansLeading}
+use Rattle.lexopt_options_spec.specs.Legal as legal
+use Rattle.lexopt_declaration.specs.Lookups.{help_names}
+use Rattle.lexopt_options.specs.declared.mistake.Mistake.{Mistake}
+use Rattle.lexopt_options.specs.declared.options.Options.{Options}
+use Rattle.lexopt_options.specs.declared.parsed.Asked.{Asked}
+use Rattle.lexopt_options.specs.declared.parsed.Asked.TheVariants as asks
+use Rattle.lexopt_options.specs.declared.parsed.Parsed.{Parsed}
+use Rattle.lexopt_options.specs.declared.refused.Refused.{Refused}
+use Rattle.lexopt_options.specs.declared.request.Request.{Request}
+use Rattle.lexopt_options.specs.declared.request.Request.TheVariants as request
+use Rattle.lexopt_options.specs.Answers.{IsUnknownRequest}
+use Rattle.lexopt_options.specs.Declarations.{declaration_of, options_of}
+use Rattle.lexopt_options.specs.Keys.{AreParsedAs, asked_view}
+use Rattle.lexopt_options.specs.LeadingLines.{IsLeadingRefused}
+use Rattle.lexopt_commands.specs.declared.answer.Step.{Step}
+use Rattle.lexopt_commands.specs.declared.answer.Step.TheVariants as step
+use Rattle.lexopt_commands.specs.declared.command.Command.{Command}
+use Rattle.lexopt_commands.specs.declared.commands.Commands.{Commands}
+use Rattle.lexopt_commands.specs.declared.read.CommandLine.{CommandLine}
+use Rattle.lexopt_commands.specs.declared.read.CommandLine.TheVariants as line
+use Rattle.lexopt_commands.specs.Answers.{IsAskedText, IsRequestStep, IsStep}
+use Rattle.lexopt_commands.specs.Completions.{IsPlaced, IsPlacedAfter, IsUnplaced, Place, at_help, in_command, nowhere, place}
+use Rattle.lexopt_commands.specs.Lines.{IsAfterOptions, IsCommandLine, IsLineAsking, IsLineOf, IsLineRead}
+use Rattle.lexopt_commands.specs.Mistakes.{IsMistake, unknown_command, missing_command}
+use Rattle.test_option_callers.specs.AnyCommands.{HaveMistake, IsAskedFor, IsNamed, IsVariable, LineTells, RequestTells, StepTells, TextTells}
+
+-- ---- a line that is read
+
+by_words : {C F V M S : Type 0} (o : Options F V Infallible M S) (commands : List (Command C)) (words : List (List ℕ)) (r : Refused F V Infallible M S) (m : Mistake) (l : List legal.Parsed) (rest : List (List ℕ))
+    → MeansLeading (declaration_of o) words l rest → first_asked (declaration_of o).options l ≡ None → AreParsedAs (options_of o) l r.before.items → IsMistake commands rest m → HaveMistake o commands words r m
+by_words o commands words r m l rest means none are (missing_command names is named) = ((l, rest, means, none, are, is), named)
+by_words o commands words r m l rest means none are (unknown_command word own hints is hinted) = ((l, rest, means, none, are, is), hinted)
+
+line_so : {C F V M S : Type 0} (c : Commands C F V M S) (words : List (List ℕ)) (it : CommandLine C F V M S) → IsLineRead c words it → LineTells c.options c.commands.now words it
+line_so c words (line.Command parsed name key own) is = ⊎_elim (λ no. absurd no)
+    (λ (a : IsAfterOptions c words (line.Command parsed name key own)).
+    (a.read, a.rest, a.means, a.nothing, subst (λ x. AreParsedAs (options_of c.options) a.read x) (sym a.after.0) a.are, a.after.1)) is
+line_so c words (line.Asked asked) is = ⊎_elim (λ by. inl by)
+    (λ (a : IsAfterOptions c words (line.Asked asked)). inr (a.after.1, a.parsed, (a.read, a.rest, a.means, a.nothing, a.are, a.after.0))) is
+line_so c words (line.Refused r) is = ⊎_elim (λ (by : IsLeadingRefused c.options words r). (by.program, by.help, inl by))
+    (λ (a : IsAfterOptions c words (line.Refused r)).
+    (a.after.program, a.after.help, inr (by_words c.options c.commands.now words r r.mistake a.read a.rest a.means a.nothing (subst (λ x. AreParsedAs (options_of c.options) a.read x) (sym a.after.before) a.are) a.after.told))) is
+
+pub line_tells : {C F V M S : Type 0} (c : Commands C F V M S) (o : Options F V Infallible M S) (commands : List (Command C)) (words : List (List ℕ)) (it : CommandLine C F V M S)
+    → c.options ≡ o → c.commands.now ≡ commands → IsLineRead c words it → LineTells o commands words it
+line_tells c o commands words it same own is = subst (λ x. LineTells x commands words it) same (subst (λ cs. LineTells c.options cs words it) own (line_so c words it is))
+
+-- ---- the line of words that are given
+
+asked_so : {C F V M S : Type 0} (asked : spec.Asked) (it : CommandLine C F V M S) → IsLineAsking asked it → IsAskedFor asked it
+asked_so for_help (line.Command parsed name key own) is = is
+asked_so (for_version text) (line.Command parsed name key own) is = is
+asked_so for_help (line.Asked asks.Help) is = tt
+asked_so for_help (line.Asked (asks.Version own)) is = absurd (let e : for_version own.now ≡ for_help = is in cc)
+asked_so (for_version text) (line.Asked asks.Help) is = absurd (let e : for_help ≡ for_version text = is in cc)
+asked_so (for_version text) (line.Asked (asks.Version own)) is = let e : for_version own.now ≡ for_version text = is in cc
+asked_so for_help (line.Refused r) is = is
+asked_so (for_version text) (line.Refused r) is = is
+
+pub asked_line : {C F V M S : Type 0} (c : Commands C F V M S) (o : Options F V Infallible M S) (l : List legal.Parsed) (rest : List (List ℕ)) (asked : spec.Asked) (it : CommandLine C F V M S)
+    → c.options ≡ o → first_asked (declaration_of o).options l ≡ Some asked → IsLineOf c l rest it → IsAskedFor asked it
+asked_line c o l rest asked it same is of = asked_so asked it (of.asks asked (subst (λ x. first_asked (declaration_of x).options l ≡ Some asked) (sym same) is))
+
+named_so : {C F V M S : Type 0} (c : Commands C F V M S) (l : List legal.Parsed) (name : List ℕ) (key : C) (words : List (List ℕ)) (it : CommandLine C F V M S) → IsCommandLine c l name key words it → IsNamed (options_of c.options) l name key words it
+named_so c l name key words (line.Command parsed told own rest) is = is
+named_so c l name key words (line.Asked asked) is = is
+named_so c l name key words (line.Refused r) is = is
+
+pub named_line : {C F V M S : Type 0} (c : Commands C F V M S) (o : Options F V Infallible M S) (l : List legal.Parsed) (name : List ℕ) (key : C) (words : List (List ℕ)) (it : CommandLine C F V M S)
+    → c.options ≡ o → IsCommandLine c l name key words it → IsNamed (options_of o) l name key words it
+named_line c o l name key words it same is = subst (λ x. IsNamed (options_of x) l name key words it) same (named_so c l name key words it is)
+
+-- the same list under the same options
+pub none_of : {F V M S : Type 0} (o own : Options F V Infallible M S) (l : List legal.Parsed) → o ≡ own → first_asked (declaration_of own).options l ≡ None → first_asked (declaration_of o).options l ≡ None
+none_of o own l same none = subst (λ x. first_asked (declaration_of x).options l ≡ None) (sym same) none
+
+-- ---- what is to be done
+
+text_so : {C F V M S : Type 0} (c : Commands C F V M S) (asked : Asked) (width : ℕ) (text : List ℕ) → IsAskedText c (asked_view asked) width text → TextTells c.options c.commands.now asked width text
+text_so c asks.Help width text is = is
+text_so c (asks.Version own) width text is = is
+
+step_so : {C F V M S : Type 0} (c : Commands C F V M S) (before : List (Parsed F V Infallible M S)) (words : List (List ℕ)) (width : ℕ) (it : Step C F V M S) → IsStep c before words width it → StepTells c.options c.commands.now before words width it
+step_so c before words width (step.Command key path call) is = (is.parsed, is.name, is.own, line_so c words (line.Command is.parsed is.name key is.own) is.read, is.by_path, is.general, is.line)
+step_so c before words width (step.Text text) is = (is.0, line_so c words (line.Asked is.0) is.1, text_so c is.0 width (string_bytes text) is.2)
+step_so c before words width (step.Refused r) is = line_so c words (line.Refused r) is
+
+unknown_so : {C F V M S : Type 0} (c : Commands C F V M S) (r : Refused F V Infallible M S)
+    → IsUnknownRequest c.options r → (r.program.now ≡ (declaration_of c.options).program) × (r.help ≡ help_names (options_of c.options)) × (r.before.items ≡ []) × IsVariable (declaration_of c.options).program r.mistake
+unknown_so c r is = (is.program, is.help, is.before, subst (IsVariable (declaration_of c.options).program) (sym is.mistake) is.variable)
+
+request_so : {C F V M S : Type 0} (c : Commands C F V M S) (before : List (Parsed F V Infallible M S)) (asked : Request) (width : ℕ) (it : Step C F V M S)
+    → IsRequestStep c before asked width it → RequestTells c.options c.commands.now before asked width it
+request_so c before (request.Line words) width it is = step_so c before words.items width it is
+request_so c before (request.Completion words typed) width (step.Command key path call) is = ⊎_elim
+    (λ (after : IsPlacedAfter c words.items typed (step.Command key path call)). without_options (place c.commands.now after.rest) after.placed)
+    (λ (un : IsUnplaced c words.items typed (step.Command key path call)). absurd un.printed)
+    is
+  where
+    without_options : (at : Place _) → IsPlaced c typed at (step.Command key path call) → call.general.items ≡ []
+    without_options (in_command name own rest) placed = placed.2.general
+    without_options at_help placed = absurd placed
+    without_options nowhere placed = absurd placed
+request_so c before (request.Completion words typed) width (step.Text text) is = tt
+request_so c before (request.Completion words typed) width (step.Refused r) is = tt
+request_so c before (request.Script shell) width (step.Command key path call) is = is
+request_so c before (request.Script shell) width (step.Text text) is = is
+request_so c before (request.Script shell) width (step.Refused r) is = is
+request_so c before request.Unknown width (step.Command key path call) is = is
+request_so c before request.Unknown width (step.Text text) is = is
+request_so c before request.Unknown width (step.Refused r) is = unknown_so c r is
+
+pub request_tells : {C F V M S : Type 0} (c : Commands C F V M S) (o : Options F V Infallible M S) (commands : List (Command C)) (before : List (Parsed F V Infallible M S)) (asked : Request) (width : ℕ) (it : Step C F V M S)
+    → c.options ≡ o → c.commands.now ≡ commands → IsRequestStep c before asked width it → RequestTells o commands before asked width it
+request_tells c o commands before asked width it same own is = subst (λ x. RequestTells x commands before asked width it) same (subst (λ cs. RequestTells c.options cs before asked width it) own (request_so c before asked width it is))

@@ -1,0 +1,42 @@
+use Rattle.std.proofs.Common.{◌≡◌, ◌∷◌, [], ℕ, List, ap, codes, map}
+use Rattle.std.specs.List.{flat_map}
+use Rattle.std.proofs.lemmas.Result.{IfOk-weaker}
+use Rattle.lexopt_line_spec.proofs.Computing.{computing}
+use Rattle.lexopt_commands.specs.Completions.{begun_line, place}
+use Rattle.test_option_callers.specs.declared.commands.Task.TheVariants as task
+use Rattle.test_option_callers.proofs.TypedTasks.{lines_so, name_and_line, names_written, not_empty, nothing_written, options_offered, task_asked}
+use Rattle.test_option_callers.proofs.commands.complete_tasks.Goals as goal
+
+pub returns-clause-command : goal.returns-clause-command
+returns-clause-command g c = λ l rest none means.
+    let words = codes "remote" ∷ rest in
+    let some = λ (is : words ≡ []). not_empty (codes "remote") rest is in
+    IfOk-weaker c.answer_request.result _ _ (λ it is. task_asked c.new.result c.args.options c.args.words.items c.args.typed l words rest (codes "remote") task.Remote it c.new.ensures.options none some (ap (λ cs. place cs words) c.new.ensures.commands) means is) c.answer_request.ensures
+
+pub returns-clause-help_of_a_command : goal.returns-clause-help_of_a_command
+returns-clause-help_of_a_command g c = λ l rest none means.
+    let words = codes "help" ∷ codes "remote" ∷ rest in
+    let some = λ (is : words ≡ []). not_empty (codes "help") (codes "remote" ∷ rest) is in
+    IfOk-weaker c.answer_request.result _ _ (λ it is. task_asked c.new.result c.args.options c.args.words.items c.args.typed l words rest (codes "remote") task.Remote it c.new.ensures.options none some (ap (λ cs. place cs words) c.new.ensures.commands) means is) c.answer_request.ensures
+
+pub returns-clause-help : goal.returns-clause-help
+unfolding computing
+returns-clause-help g c = λ l none means.
+    let words = codes "help" ∷ [] in
+    let some = λ (is : words ≡ []). not_empty (codes "help") [] is in
+    IfOk-weaker c.answer_request.result _ _ (λ it is.
+    names_written c.new.result c.args.options c.args.words.items c.args.typed l words it _ c.new.ensures.options none some (ap (λ cs. place cs words) c.new.ensures.commands) (ap (flat_map (begun_line c.args.typed)) c.new.ensures.commands) means is) c.answer_request.ensures
+
+pub returns-clause-unknown : goal.returns-clause-unknown
+returns-clause-unknown g c = λ l rest none means.
+    let words = codes "remo" ∷ rest in
+    let some = λ (is : words ≡ []). not_empty (codes "remo") rest is in
+    IfOk-weaker c.answer_request.result _ _ (λ it is. nothing_written c.new.result c.args.options c.args.words.items c.args.typed l words it c.new.ensures.options none some (ap (λ cs. place cs words) c.new.ensures.commands) means is) c.answer_request.ensures
+
+pub returns-clause-options : goal.returns-clause-options
+unfolding computing
+returns-clause-options g c = λ without.
+    let words = c.args.words.items in
+    let typed = c.args.typed in
+    let so = λ (text : List ℕ). lines_so c.new.result words typed text (ap (map name_and_line) c.new.ensures.commands) in
+    IfOk-weaker c.answer_request.result _ _ (λ it is. options_offered c.new.result c.args.options words typed it c.new.ensures.options without so is) c.answer_request.ensures

@@ -1,0 +1,187 @@
+//! The end of a line: what is missing, what is asked for, and to which positional each word
+//! belongs.
+use crate::brute::plain::{Item, Place, Plan, Typed};
+use lexopt_options::{Asked, Count, Kind, Names, Words};
+use std::alloc::{AllocError, Global};
+
+/// How many of these items are positionals.
+pub fn count_of(items: &[Item<'_>]) -> usize {
+    items
+        .iter()
+        .filter(|item| matches!(item, Item::Word(_)))
+        .count()
+}
+
+/// Whether a positional may occur more than once.
+pub fn may_repeat(count: Count) -> bool {
+    count == Count::AnyNumber || count == Count::AtLeastOnce
+}
+
+// Whether a positional is required.
+fn is_required(count: Count) -> bool {
+    count == Count::Once || count == Count::AtLeastOnce
+}
+
+// The placeholder of the first required positional that is missing after `count` words.
+fn missing_argument(plan: &'static Plan, count: usize) -> Option<&'static str> {
+    plan.positionals
+        .iter()
+        .filter(|own| is_required(own.count))
+        .nth(count)
+        .map(|own| own.placeholder)
+}
+
+// The names of the first required option that is not among these items.
+fn missing_option(plan: &'static Plan, items: &[Item<'_>]) -> Option<Names<'static>> {
+    for (place, option) in plan.options.iter().enumerate() {
+        let occurs = items.iter().any(|item| matches!(item, Item::Option(own, _) if *own == place));
+        if option.required && !occurs {
+            return Some(option.names);
+        }
+    }
+    None
+}
+
+/// The name by which messages show an option that has these names.
+pub fn name_of<'w>(names: Names<'w>) -> Typed<'w> {
+    match names {
+        Names::Short(character) => Typed::Short(character),
+        Names::Long(name) | Names::Both(_, name) => Typed::Long(name),
+    }
+}
+
+/// The words that an option or a positional accepts, if it has a list.
+pub fn list_of(words: Words<'static>) -> Option<&'static [&'static str]> {
+    match words {
+        Words::Listed(values) => Some(values),
+        _ => None,
+    }
+}
+
+// The mistake that this positional does not accept a word, if it does not.
+fn unlisted_word(
+    alloc: Global,
+    plan: &'static Plan,
+    place: Place,
+    word: &str,
+) -> Result<Option<String>, AllocError> {
+    for own in plan.positionals {
+        if let (true, Some(list)) = (own.key == place, list_of(own.words)) {
+            if !list.contains(&word) {
+                let placeholder = own.placeholder;
+                let list = list.join(alloc, ", ")?;
+                return Ok(Some(format!(in alloc;
+                    "invalid argument \"{word}\" for {placeholder}: one of {list}"
+                )?));
+            }
+        }
+    }
+    Ok(None)
+}
+
+// The mistake of the first word that its positional does not accept, if there is one.
+fn first_unlisted_word(
+    alloc: Global,
+    plan: &'static Plan,
+    items: &[Item<'_>],
+) -> Result<Option<String>, AllocError> {
+    let places = places_of(alloc, plan, count_of(items))?;
+    let mut words = 0usize;
+    for item in items {
+        if let (Item::Word(word), Some(place)) = (item, places.get(words)) {
+            if let Some(mistake) = unlisted_word(alloc, plan, *place, word)? {
+                return Ok(Some(mistake));
+            }
+            words = words.saturating_add(1);
+        }
+    }
+    Ok(None)
+}
+
+// Whether the word after `count` others can belong to the positional with this key, with or without
+// more words after it.
+fn can_own(alloc: Global, plan: &Plan, count: usize, key: Place) -> Result<bool, AllocError> {
+    for more in 1..7usize {
+        let whole = count.saturating_add(more);
+        let places = places_of(alloc, plan, whole)?;
+        if places.len() == whole && places.get(count) == Some(&key) {
+            return Ok(true);
+        }
+    }
+    Ok(false)
+}
+
+/// The places in the declaration of the positionals to which the word after `count` others can
+/// belong; and the words in their lists.
+pub fn owners_after(
+    alloc: Global,
+    plan: &'static Plan,
+    count: usize,
+) -> Result<(Vec<usize>, Vec<&'static str>), AllocError> {
+    let mut owners = Vec::new(alloc);
+    let mut words = Vec::new(alloc);
+    for (place, own) in plan.positionals.iter().enumerate() {
+        if can_own(alloc, plan, count, own.key)? {
+            owners.push(place)?;
+            words.extend_from_slice(list_of(own.words).unwrap_or(&[]))?;
+        }
+    }
+    Ok((owners, words))
+}
+
+/// The mistake at the end of a line, if there is one.
+pub fn missing(
+    alloc: Global,
+    plan: &'static Plan,
+    items: &[Item<'_>],
+) -> Result<Option<String>, AllocError> {
+    if let Some(placeholder) = missing_argument(plan, count_of(items)) {
+        return Ok(Some(format!(in alloc; "missing argument {placeholder}")?));
+    }
+    if let Some(mistake) = first_unlisted_word(alloc, plan, items)? {
+        return Ok(Some(mistake));
+    }
+    let Some(names) = missing_option(plan, items) else {
+        return Ok(None);
+    };
+    let option = name_of(names);
+    Ok(Some(format!(in alloc; "missing option '{option}'")?))
+}
+
+/// The request of the first item that is one, if there is one.
+pub fn asked(plan: &Plan, items: &[Item<'_>]) -> Option<Asked<'static>> {
+    for item in items {
+        if let Item::Option(place, _) = item {
+            match plan.options.get(*place).map(|option| option.kind) {
+                Some(Kind::Help) => return Some(Asked::Help),
+                Some(Kind::Version(text)) => return Some(Asked::Version(text)),
+                _ => {}
+            }
+        }
+    }
+    None
+}
+
+/// The key of each of `count` words, in order. Each required positional has a word, even if the
+/// word is missing, and the other words belong to the first positional that can take more.
+pub fn places_of(alloc: Global, plan: &Plan, count: usize) -> Result<Vec<Place>, AllocError> {
+    let mut places = Vec::new(alloc);
+    let mut left = count;
+    for own in plan.positionals {
+        left = left.saturating_sub(usize::from(is_required(own.count)));
+    }
+    for own in plan.positionals {
+        let needed = usize::from(is_required(own.count));
+        let more = if may_repeat(own.count) {
+            left
+        } else {
+            left.min(usize::from(needed == 0))
+        };
+        left = left.saturating_sub(more);
+        for _ in 0..needed.saturating_add(more) {
+            places.push(own.key)?;
+        }
+    }
+    places.truncate(count);
+    Ok(places)
+}

@@ -1,0 +1,294 @@
+//! The spellings and values that are offered, compared with the plain reader.
+use crate::brute::ends::owners_after;
+use crate::brute::plain::{
+    Item, Key, Next, Place, Plan, Reading, Spelling, Typed, ends_in_option, list_at, next_after,
+    place_of, read,
+};
+use crate::brute::plans::{FRONTS, SPELLINGS, TAILS, WORDS, plans};
+use crate::brute::words_of;
+use lexopt_options::{Arity, Completion, Options, OsString, Spelling as Offered};
+use std::alloc::{AllocError, Global};
+use test_helpers::lists::list_of;
+
+type KeyOptions = Options<'static, Key, Key, Place, Key, Key>;
+
+// The numbers of the lists of at most two of the thirteen words are below this one.
+const PAIRS: usize = 14 * 14;
+
+// The place of the option with this spelling, if it is declared.
+fn place_of_spelling(plan: &Plan, spelling: &str) -> Option<usize> {
+    match spelling.strip_prefix("--") {
+        Some(name) => place_of(plan, Typed::Long(name)),
+        None => place_of(plan, Typed::Short(spelling.chars().last()?)),
+    }
+}
+
+// What can come after some words.
+#[derive(Drop)]
+struct Possible {
+    spellings: Vec<Spelling>,
+    next: Next,
+    // The positionals to which the next word can belong, and the words in their lists.
+    owners: Vec<usize>,
+    words: Vec<&'static str>,
+}
+
+// Whether a line with these words around the spelling is legal, and is read as `front` and then the
+// option of the spelling.
+fn goes_on(
+    alloc: Global,
+    plan: &'static Plan,
+    before: &[&'static str],
+    front: &[Item<'static>],
+    spelling: Spelling,
+    after: &[&'static str],
+) -> Result<bool, AllocError> {
+    let words = [before, &[spelling.text], after].concat(alloc)?;
+    let line = read(alloc, plan, &words)?;
+    Ok(
+        line.mistake.is_none()
+            && line.missing.is_none()
+            && line.items.starts_with(front)
+            && matches!(
+                line.items.get(front.len()),
+                Some(Item::Option(own, _)) if *own == spelling.place
+            ),
+    )
+}
+
+// Whether a spelling can come after these words, which are read as `front`: a line with one of
+// `TAILS` or with at most two words after the spelling is legal, and the spelling is its option
+// there.
+fn can_come(
+    alloc: Global,
+    plan: &'static Plan,
+    before: &[&'static str],
+    front: &[Item<'static>],
+    spelling: Spelling,
+) -> Result<bool, AllocError> {
+    if !ends_in_option(alloc, plan, before, spelling, front.len())? {
+        return Ok(false);
+    }
+    for after in TAILS.iter() {
+        if goes_on(alloc, plan, before, front, spelling, after)? {
+            return Ok(true);
+        }
+    }
+    for number in 0..PAIRS {
+        if let Some(after) = list_of(alloc, &WORDS, number)? {
+            if goes_on(alloc, plan, before, front, spelling, &after)? {
+                return Ok(true);
+            }
+        }
+    }
+    Ok(false)
+}
+
+// The spellings that can come after these words, which are read so.
+fn possible_spellings(
+    alloc: Global,
+    plan: &'static Plan,
+    before: &[&'static str],
+    front: &Reading<'static>,
+) -> Result<Vec<Spelling>, AllocError> {
+    let mut found = Vec::new(alloc);
+    for (place, option) in plan.options.iter().enumerate() {
+        for text in SPELLINGS.iter() {
+            let spelling = Spelling { text, place };
+            if front.mistake.is_none()
+                && !option.hidden
+                && place_of_spelling(plan, text) == Some(place)
+                && can_come(alloc, plan, before, &front.items, spelling)?
+            {
+                found.push(spelling)?;
+            }
+        }
+    }
+    Ok(found)
+}
+
+// What can come after these words.
+fn possible_after(
+    alloc: Global,
+    plan: &'static Plan,
+    before: &[&'static str],
+) -> Result<Possible, AllocError> {
+    let (next, count) = next_after(alloc, plan, before)?;
+    let spellings = possible_spellings(alloc, plan, before, &read(alloc, plan, before)?)?;
+    let (owners, words) = owners_after(alloc, plan, count)?;
+    Ok(Possible {
+        spellings,
+        next,
+        owners,
+        words,
+    })
+}
+
+// Whether exactly the possible spellings that begin with what was typed are offered.
+fn are_offered(possible_spellings: &[Spelling], typed: &str, offered: &[Offered<'_>]) -> bool {
+    let mut count = 0usize;
+    for spelling in possible_spellings {
+        if spelling.text.starts_with(typed) {
+            if !matches!(offered.get(count), Some(own) if own.text.as_str() == spelling.text) {
+                return false;
+            }
+            count = count.saturating_add(1);
+        }
+    }
+    count == offered.len()
+}
+
+// The option whose value is typed after `=`, and the part of the word before the value.
+fn joined_to_name(plan: &Plan, typed: &'static str) -> Option<(usize, &'static str)> {
+    let (name, value) = typed.strip_prefix("--")?.split_once('=')?;
+    let place = place_of(plan, Typed::Long(name))?;
+    Some((place, typed.strip_suffix(value)?))
+}
+
+// Whether the option at this place is a flag.
+fn is_flag(plan: &Plan, place: usize) -> bool {
+    match plan.options.get(place) {
+        Some(option) => matches!(option.kind.arity(), Arity::Zero),
+        None => false,
+    }
+}
+
+// The option whose value is typed in its cluster, and the part of the word before the value.
+fn joined_in_cluster(plan: &Plan, typed: &'static str) -> Option<(usize, &'static str)> {
+    let mut rest = typed.strip_prefix('-')?.chars();
+    while let Some(character) = rest.next() {
+        let place = place_of(plan, Typed::Short(character))?;
+        if !is_flag(plan, place) {
+            let value = rest.as_str();
+            let value = value.strip_prefix('=').unwrap_or(value);
+            return if rest.as_str().is_empty() {
+                None
+            } else {
+                Some((place, typed.strip_suffix(value)?))
+            };
+        }
+    }
+    None
+}
+
+// The option whose value is typed in its word, and the part of the word before the value.
+fn joined_option(plan: &Plan, typed: &'static str) -> Option<(usize, &'static str)> {
+    if typed.starts_with("--") {
+        joined_to_name(plan, typed)
+    } else {
+        joined_in_cluster(plan, typed)
+    }
+}
+
+// Adds the texts that begin with what was typed.
+fn add_matching(
+    alloc: Global,
+    values: &mut Vec<String>,
+    texts: &[&str],
+    typed: &str,
+) -> Result<(), AllocError> {
+    for text in texts {
+        if text.starts_with(typed) {
+            values.push(String::from_str(alloc, text)?)?;
+        }
+    }
+    Ok(())
+}
+
+// The values of lists that can complete a typed word, if `next` can come there and `words` are in
+// the lists of the positionals to which the word can belong.
+fn values_of(
+    alloc: Global,
+    plan: &Plan,
+    next: Next,
+    words: &[&str],
+    typed: &'static str,
+) -> Result<Vec<String>, AllocError> {
+    let mut values = Vec::new(alloc);
+    match next {
+        Next::OptionOrValue(place) | Next::Value(place) | Next::PlainValue(place) => {
+            let own = list_at(plan, place).unwrap_or(&[]);
+            add_matching(alloc, &mut values, own, typed)?;
+        }
+        Next::Option | Next::Positional => add_matching(alloc, &mut values, words, typed)?,
+        Next::Nothing => {}
+    }
+    if let (Next::Option | Next::OptionOrValue(_), Some((place, before))) = (
+        next,
+        joined_option(plan, typed),
+    ) {
+        for value in list_at(plan, place).unwrap_or(&[]) {
+            let word = format!(in alloc; "{before}{value}")?;
+            if word.as_str().starts_with(typed) {
+                values.push(word)?;
+            }
+        }
+    }
+    Ok(values)
+}
+
+// Whether a typed word can be a positional, if `next` can come there.
+fn can_be_positional(next: Next, typed: &str) -> bool {
+    next == Next::Positional || (next == Next::Option && !typed.starts_with('-'))
+}
+
+// Whether this completion of a typed word has what is possible.
+fn is_right(
+    alloc: Global,
+    plan: &Plan,
+    possible: &Possible,
+    typed: &'static str,
+    completion: &Completion<'static, Key, Key, Key, Key>,
+) -> Result<bool, AllocError> {
+    let owners: &[usize] = if can_be_positional(possible.next, typed) {
+        &possible.owners
+    } else {
+        &[]
+    };
+    Ok(
+        are_offered(&possible.spellings, typed, &completion.spellings)
+            && completion.arguments.as_slice() == owners
+            && completion.values == values_of(alloc, plan, possible.next, &possible.words, typed)?,
+    )
+}
+
+// For how many typed words the right spellings and values are offered after these words.
+fn count_right_after(
+    alloc: Global,
+    plan: &'static Plan,
+    options: &KeyOptions,
+    before: &[&'static str],
+) -> Result<usize, AllocError> {
+    let possible = possible_after(alloc, plan, before)?;
+    let mut right = 0usize;
+    for typed in FRONTS.iter() {
+        let word = OsString::from_bytes(alloc, typed.as_bytes())?;
+        let completion = options.complete(alloc, words_of(alloc, before)?, &word)?;
+        if is_right(alloc, plan, &possible, typed, &completion)? {
+            right = right.saturating_add(1);
+        }
+    }
+    Ok(right)
+}
+
+// The same, counted after no word, and after each one and each two of the words.
+fn count_right(alloc: Global, plan: &'static Plan) -> usize {
+    let mut right = 0usize;
+    if let Ok(options) = Options::try_new(plan) {
+        for number in 0..PAIRS {
+            if let Ok(Some(before)) = list_of(alloc, &WORDS, number) {
+                let count = count_right_after(alloc, plan, &options, &before);
+                right = right.saturating_add(count.unwrap_or(0));
+            }
+        }
+    }
+    right
+}
+
+// Eight words are typed after each of 1 + 13 + 169 lines.
+#[test]
+fn spellings(rt: HostRuntime) {
+    for plan in plans() {
+        assert_eq!(rt; count_right(rt.alloc(), plan), 1_464, "{}", plan.program);
+    }
+}

@@ -1,0 +1,237 @@
+//! Completion, compared with reading: after each line of at most two words, a name or a spelling is
+//! offered if and only if some line continues with it.
+use crate::commands::git::{Flag, Task, Value, git};
+use lexopt_commands::{CommandLine, Step};
+use lexopt_options::{Asked, Leading, OsString, Parsed, Request};
+use std::alloc::{AllocError, Global};
+use test_helpers::lists::list_of;
+
+static WORDS: [&str; 8] = ["-v", "-C", "--", "add", "remote", "help", "a", "-z"];
+
+static NAMES: [&str; 4] = ["add", "remove", "remote", "help"];
+
+// The spellings of the general options, and the option of each.
+static SPELLINGS: [(&str, Kind); 6] = [
+    ("-v", Kind::Verbose),
+    ("--verbose", Kind::Verbose),
+    ("-C", Kind::Directory),
+    ("-h", Kind::Help),
+    ("--help", Kind::Help),
+    ("--version", Kind::Version),
+];
+
+#[derive(Clone, Copy, PartialEq)]
+enum Kind {
+    Verbose,
+    Directory,
+    Help,
+    Version,
+}
+
+// What a line is read as.
+#[derive(Clone, Copy)]
+enum Meaning {
+    // A command, after a general option of this kind at the place that is asked about.
+    Command(Option<Kind>),
+    Asked(Kind),
+    Refused,
+}
+
+// The words `before`, and then the words `after`.
+fn words_of(alloc: Global, before: &[&str], after: &[&str]) -> Result<Vec<OsString>, AllocError> {
+    let mut words = Vec::new(alloc);
+    for word in before {
+        words.push(OsString::from_text(alloc, word)?)?;
+    }
+    for word in after {
+        words.push(OsString::from_text(alloc, word)?)?;
+    }
+    Ok(words)
+}
+
+// The meaning of a line, with the kind of the general option at this place.
+fn meaning_of(line: &CommandLine<'_, Task, Flag, Value>, place: usize) -> Meaning {
+    match line {
+        CommandLine::Command(parsed, _, _, _) => match parsed.get(place) {
+            Some(Parsed::Flag(Flag::Verbose)) => Meaning::Command(Some(Kind::Verbose)),
+            Some(Parsed::Value(Value::Directory, _)) => Meaning::Command(Some(Kind::Directory)),
+            _ => Meaning::Command(None),
+        },
+        CommandLine::Asked(Asked::Help) => Meaning::Asked(Kind::Help),
+        CommandLine::Asked(Asked::Version(_)) => Meaning::Asked(Kind::Version),
+        CommandLine::Refused(_) => Meaning::Refused,
+    }
+}
+
+// The same for a line of the words `before` and `after`.
+fn read(
+    alloc: Global,
+    before: &[&str],
+    after: &[&str],
+    place: usize,
+) -> Result<Meaning, AllocError> {
+    let line = git().read(alloc, words_of(alloc, before, after)?)?;
+    Ok(meaning_of(&line, place))
+}
+
+// Whether a line of these words asks for the help.
+fn asks_for_help(alloc: Global, before: &[&str]) -> Result<bool, AllocError> {
+    Ok(matches!(read(alloc, before, &[], 0)?, Meaning::Asked(Kind::Help)))
+}
+
+// Whether a line of these words and then this name has the command of this name, or asks for the
+// help by this name.
+fn can_be_name(alloc: Global, before: &[&str], name: &str) -> Result<bool, AllocError> {
+    match read(alloc, before, &[name], 0)? {
+        Meaning::Command(_) => Ok(true),
+        Meaning::Asked(Kind::Help) => Ok(name == "help" && !asks_for_help(alloc, before)?),
+        Meaning::Asked(_) | Meaning::Refused => Ok(false),
+    }
+}
+
+// Whether these words ask for the help by the name `help` at their end, so that the name of a
+// command can come next. After that name twice any words can come.
+fn are_before_help(alloc: Global, before: &[&str]) -> Result<bool, AllocError> {
+    match before {
+        [.., other, last] => Ok(
+            *last == "help" && *other != "help" && asks_for_help(alloc, before)?,
+        ),
+        [only] => Ok(*only == "help"),
+        [] => Ok(false),
+    }
+}
+
+// Whether a line of the words `before` and `after` has an option of this kind after `count` general
+// options, or asks for the help or the version by it.
+fn has_option(
+    alloc: Global,
+    before: &[&str],
+    count: usize,
+    after: &[&str],
+    kind: Kind,
+) -> Result<bool, AllocError> {
+    match read(alloc, before, after, count)? {
+        Meaning::Command(found) => Ok(found == Some(kind)),
+        Meaning::Asked(found) => Ok(found == kind),
+        Meaning::Refused => Ok(false),
+    }
+}
+
+// How many general options were read, if there was nothing else.
+fn count_in(leading: &Leading<'_, Flag, Value>) -> Option<usize> {
+    match leading {
+        Leading::Parsed(parsed, rest) if rest.is_empty() => Some(parsed.len()),
+        _ => None,
+    }
+}
+
+// How many options these words are, if they are general options and nothing else.
+fn count_of(alloc: Global, before: &[&str]) -> Result<Option<usize>, AllocError> {
+    let leading = git()
+        .options()
+        .read_leading(alloc, words_of(alloc, before, &[])?)?;
+    Ok(count_in(&leading))
+}
+
+// Whether an option of this spelling can come after these words: they are general options and
+// nothing else, and some line continues with it. After the spelling is a command, or a value and a
+// command.
+fn can_be_option(
+    alloc: Global,
+    before: &[&str],
+    spelling: &str,
+    kind: Kind,
+) -> Result<bool, AllocError> {
+    match count_of(alloc, before)? {
+        Some(count) => Ok(
+            has_option(alloc, before, count, &[spelling, "add"], kind)?
+                || has_option(alloc, before, count, &[spelling, "x", "add"], kind)?,
+        ),
+        None => Ok(false),
+    }
+}
+
+// Whether this text has a line that begins with `front`.
+fn has_line(text: &str, front: &str) -> bool {
+    text.lines().any(|line| line.starts_with(front))
+}
+
+// What is offered for this typed word after these words, or `None` if a command is asked.
+fn offered(alloc: Global, before: &[&str], typed: &str) -> Result<Option<String>, AllocError> {
+    let words = words_of(alloc, before, &[])?;
+    let typed = OsString::from_text(alloc, typed)?;
+    match git().answer_request(alloc, Request::Completion(words, typed), 80)? {
+        Step::Command(_, _, _) => Ok(None),
+        Step::Text(text) => Ok(Some(text)),
+        Step::Refused(_) => Ok(Some(String::new(alloc))),
+    }
+}
+
+// Whether this text offers exactly the names that can come.
+fn are_names(alloc: Global, before: &[&str], text: &str) -> Result<bool, AllocError> {
+    for name in NAMES.iter() {
+        let line = format!(in alloc; "+{name}\t")?;
+        let can = can_be_name(alloc, before, name)? || are_before_help(alloc, before)?;
+        if has_line(text, line.as_str()) != can {
+            return Ok(false);
+        }
+    }
+    Ok(true)
+}
+
+// Whether this text offers exactly the spellings that can come.
+fn are_spellings(alloc: Global, before: &[&str], text: &str) -> Result<bool, AllocError> {
+    for (spelling, kind) in SPELLINGS.iter() {
+        let line = format!(in alloc; "{spelling}\t")?;
+        if has_line(text, line.as_str()) != can_be_option(alloc, before, spelling, *kind)? {
+            return Ok(false);
+        }
+    }
+    Ok(true)
+}
+
+// Whether these are the right names and spellings after these words. A command is asked if and only
+// if they name one.
+fn are_right(
+    alloc: Global,
+    before: &[&str],
+    plain: Option<&str>,
+    dashed: Option<&str>,
+) -> Result<bool, AllocError> {
+    let is_command = matches!(read(alloc, before, &[], 0)?, Meaning::Command(_));
+    match (plain, dashed) {
+        (Some(plain), Some(dashed)) => Ok(
+            !is_command
+                && are_names(alloc, before, plain)?
+                && are_spellings(alloc, before, dashed)?,
+        ),
+        (None, None) => Ok(is_command),
+        _ => Ok(false),
+    }
+}
+
+// Whether the right names and spellings are offered after these words.
+fn is_offered_right(alloc: Global, before: &[&str]) -> Result<bool, AllocError> {
+    let plain = offered(alloc, before, "")?;
+    let dashed = offered(alloc, before, "-")?;
+    are_right(alloc, before, plain.as_deref(), dashed.as_deref())
+}
+
+// For how many lines of at most two words they are. The numbers of these lines are below 9 * 9.
+fn right_lines(alloc: Global) -> usize {
+    let mut right = 0usize;
+    for number in 0..81 {
+        if let Ok(Some(before)) = list_of(alloc, &WORDS, number) {
+            if let Ok(true) = is_offered_right(alloc, &before) {
+                right = right.saturating_add(1);
+            }
+        }
+    }
+    right
+}
+
+// All lines of at most two of the words: 1 + 8 + 64.
+#[test]
+fn lines(rt: HostRuntime) {
+    assert_eq!(rt; right_lines(rt.alloc()), 73);
+}

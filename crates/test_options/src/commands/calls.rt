@@ -1,0 +1,217 @@
+//! Each public call of `Commands`, and the words, the variable and `COLUMNS` of an environment.
+use crate::commands::git::{Flag, Task, Value, git};
+use lexopt_commands::{Command, CommandLine, Commands, Runs, Step};
+use lexopt_options::{OsString, Request};
+use std::alloc::{AllocError, Global};
+use test_helpers::environments::{Arguments, Variable};
+use test_helpers::parsers::words_of;
+
+// A call that is given the words of a line, or, for a request, the words before the last and what
+// is typed.
+#[derive(Clone, Copy)]
+enum Call {
+    Read,
+    Answer,
+    Complete,
+    CompleteLeading,
+}
+
+use Call::{Answer, Complete, CompleteLeading, Read};
+
+// At 30 columns the help of an entry begins at column 10.
+const HELP_AT_30: &str = "\
+Usage: git [OPTION]... COMMAND
+       [ARGUMENT]...
+Tracks files.
+
+  add     add files
+  remove  remove files
+  remote  manage remotes
+  help    print the help of a
+          command
+
+  -v, --verbose
+          tell more
+  -C DIR  work there
+  -h, --help
+          print this help and
+          exit
+      --version
+          print the version
+          and exit
+
+It has no index.
+";
+
+// Calls, lines, and what is read, printed or refused.
+static ROWS: [(Call, &[u8], &str); 17] = [
+    (
+        Read,
+        b"-C dir -- add -f \xFF",
+        "[Value(Directory, \"dir\")] add Add [\"-f\", \"\\xFF\"]",
+    ),
+    (
+        Read,
+        b"-v help remote x",
+        "[Flag(Verbose)] remote Remote [\"x\", \"--help\"]",
+    ),
+    (Read, b"--version bogus", "Version(\"git 1.0\")"),
+    (
+        Read,
+        b"-v help re x",
+        "[Flag(Verbose)], then UnknownCommand { word: \"re\", rest: [\"x\", \"--help\"], \
+        hints: [\"remove\", \"remote\"] }",
+    ),
+    (
+        Read,
+        b"-v",
+        "[Flag(Verbose)], then MissingCommand([\"add\", \"remove\", \"remote\", \"help\"])",
+    ),
+    (Answer, b"help", HELP_AT_30),
+    (Answer, b"--version", "git 1.0\n"),
+    (
+        Answer,
+        b"-v add x",
+        "git add Add Call { general: [Flag(Verbose)], request: Line([\"x\"]) }",
+    ),
+    (
+        Answer,
+        b"-x add",
+        "git: invalid option '-x'\nTry 'git --help' for more information.",
+    ),
+    (
+        Complete,
+        b"-v re",
+        "+remove\tremove files\n+remote\tmanage remotes\n",
+    ),
+    (
+        Complete,
+        b"-v remote add -",
+        "git remote Remote Call { general: [], request: Completion([\"add\"], \"-\") }",
+    ),
+    (Complete, b"-vCdi", "files\t-vC\n"),
+    // After `--help` the general declaration alone decides. It has no positionals.
+    (Complete, b"--help -v", "-v\ttell more\n"),
+    (Complete, b"--help x -v", ""),
+    (CompleteLeading, b"-v x y -", "Rest([\"x\", \"y\"])"),
+    (
+        CompleteLeading,
+        b"-C a",
+        "Text { text: \"files\\n\", can_come_first: false }",
+    ),
+    (
+        CompleteLeading,
+        b"-v --ver",
+        "Text { text: \"--verbose\\ttell more\\n--version\\tprint the version and exit\\n\", \
+        can_come_first: true }",
+    ),
+];
+
+// The meaning of a line, as `Debug` writes it: the general options, the command's name, its key and
+// its words; or the request; or the general options before the mistake, and the mistake.
+fn text_of_line(
+    alloc: Global,
+    line: &CommandLine<'_, Task, Flag, Value>,
+) -> Result<String, AllocError> {
+    match line {
+        CommandLine::Command(parsed, name, task, words) => {
+            format!(in alloc; "{parsed:?} {name} {task:?} {words:?}")
+        }
+        CommandLine::Asked(asked) => format!(in alloc; "{asked:?}"),
+        CommandLine::Refused(refused) => {
+            format!(in alloc; "{:?}, then {:?}", refused.before, refused.mistake)
+        }
+    }
+}
+
+// What the program does: the command's path, its key and its call, a text to print, or a refusal.
+fn text_of_step(alloc: Global, step: Step<'_, Task, Flag, Value>) -> Result<String, AllocError> {
+    match step {
+        Step::Command(task, path, call) => format!(in alloc; "{path} {task:?} {call:?}"),
+        Step::Text(text) => Ok(text),
+        Step::Refused(refused) => refused.to_string(alloc),
+    }
+}
+
+// How the last of these words is completed among leading options, as `Debug` writes it.
+fn text_of_completion(alloc: Global, mut words: Vec<OsString>) -> Result<String, AllocError> {
+    let typed = words.pop().unwrap_or(OsString::new(alloc));
+    let completion = git().options().complete_leading(alloc, words, &typed)?;
+    format!(in alloc; "{completion:?}")
+}
+
+// What the call returns for these words, as a text.
+fn text_of(alloc: Global, call: Call, line: &[u8]) -> Result<String, AllocError> {
+    let words = words_of(alloc, line)?;
+    let step = match call {
+        Read => return text_of_line(alloc, &git().read(alloc, words)?),
+        Answer => git().answer(alloc, words, 30),
+        Complete => {
+            let request = Request::new(alloc, Some(b"zsh_complete"), words);
+            git().answer_request(alloc, request, 30)
+        }
+        CompleteLeading => return text_of_completion(alloc, words),
+    };
+    text_of_step(alloc, step?)
+}
+
+#[test]
+fn rows(rt: HostRuntime) {
+    for (call, line, wanted) in ROWS.iter() {
+        let text = text_of(rt.alloc(), *call, line).expect(&rt, "memory");
+        assert_eq!(rt; text.as_str(), *wanted, "{line:?}");
+    }
+}
+
+// What the program does with these words of an environment, at the width of `COLUMNS`.
+fn text_of_words(alloc: Global, words: &[OsString]) -> Result<String, AllocError> {
+    let environment = Variable {
+        arguments: Arguments { words },
+        name: "COLUMNS",
+        value: Some(b"30"),
+    };
+    text_of_step(alloc, git().from_env(&(environment, alloc))?)
+}
+
+#[test]
+fn help_of_the_environment(rt: HostRuntime) {
+    let words = words_of(rt.alloc(), b"git help").expect(&rt, "memory");
+    let text = text_of_words(rt.alloc(), &words).expect(&rt, "memory");
+    assert_eq!(rt; text.as_str(), HELP_AT_30);
+}
+
+#[test]
+fn what_was_given(rt: HostRuntime) {
+    assert_eq!(rt; git().options().program(), "git");
+    assert_eq!(rt; git().commands().len(), 4);
+    let usage = git().usage(rt.alloc(), 30).expect(&rt, "memory");
+    assert_eq!(rt;
+        usage.as_str(),
+        "Usage: git [OPTION]... COMMAND\n       [ARGUMENT]...\n"
+    );
+    let help = git().help(rt.alloc(), 30).expect(&rt, "memory");
+    assert_eq!(rt; help.as_str(), HELP_AT_30);
+}
+
+static BLANK: [Command<'static, Task>; 1] = [Command {
+    name: "a b",
+    help: "",
+    runs: Runs::Command(Task::Add),
+}];
+
+// Why a name with a blank cannot be declared.
+fn text_of_fault(alloc: Global) -> Result<String, AllocError> {
+    match Commands::try_new(git().options(), &BLANK) {
+        Ok(_) => Ok(String::new(alloc)),
+        Err(error) => error.to_string(alloc),
+    }
+}
+
+#[test]
+fn faults(rt: HostRuntime) {
+    let text = text_of_fault(rt.alloc()).expect(&rt, "memory");
+    assert_eq!(rt;
+        text.as_str(),
+        "command 'a b': its name has a blank or a control character in it"
+    );
+}
