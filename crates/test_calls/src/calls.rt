@@ -1,5 +1,5 @@
 //! Calls that a script cannot make in this way: copies of a parser, and `optional_value` itself.
-//! The other modules make the other calls that read a line, and so do the cases of `test_cases`.
+//! The other modules make the other calls that read a line, and so do the cases of `test_lists`.
 use lexopt::{Error, Parser};
 use test_helpers::calls::{gives, reads_short, reads_word, takes};
 use test_helpers::parsers::parser_of;

@@ -1,6 +1,6 @@
 //! Tests of calls with enough memory: the public calls that a script cannot make, each once, and
 //! rows of values, errors and words. The words of an environment, long names and long scripts, and
-//! how a program ends. Lines that a script can have are cases of `test_cases`. Many tests lend what
+//! how a program ends. Lines that a script can have are cases of `test_lists`. Many tests lend what
 //! they made to a helper that returns a `bool`, so that their proofs are short.
 #![tactic(auto)]
 

@@ -1,4 +1,4 @@
-//! Lists of calls, and their replies as values. `test_cases` tests the text of replies.
+//! Lists of calls, and their replies as values. The cases of `test_lists` have the text of replies.
 use lexopt::replay::{Call, replay};
 use lexopt::{Error, OsString};
 use std::alloc::{AllocError, Global};

@@ -1,5 +1,5 @@
 //! Whole lines: a table of options of one value, with the option `-`, which a script cannot put
-//! into a table. Other lines are cases of `test_cases`.
+//! into a table. Other lines are cases of `test_lists`.
 use lexopt::replay::{Item, Table, read_items};
 use std::alloc::AllocError;
 use std::process::Abort;

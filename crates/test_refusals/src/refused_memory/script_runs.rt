@@ -1,5 +1,5 @@
 //! The stored script. If a call runs out of memory, its line is `error: out of memory`, and every
-//! other line is as if that call had not been made. The other scripts are cases of `test_cases`.
+//! other line is as if that call had not been made. The other scripts are cases of `test_lists`.
 use crate::refused_memory::out_of_memory_in;
 use lexopt::replay::{RunError, run};
 use std::test::Fail;

@@ -1,10 +1,8 @@
-//! Tests that scripts of calls and of whole lines have their expected outputs.
+//! Runs scripts of calls and of whole lines, and compares their outputs with the expected ones.
 //!
 //! Standard input has the cases. The first lines of the file `stdin` describe their format. The
-//! program prints each case that differs, and after each section how many of its cases agree and
+//! output has each case that differs, and after each section how many of its cases agree and
 //! differ.
-#![tactic(auto)]
-
 use lexopt_calls::run::run;
 use std::alloc::{AllocError, Global};
 use std::io;
@@ -148,7 +146,8 @@ fn print_lines(rt: &impl Print, mark: &str, text: &str) -> io::Result<()> {
     Ok(())
 }
 
-fn main(rt: HostRuntime) -> io::Result<()> {
+/// Runs the cases of standard input, and prints the counts.
+pub fn print(rt: &(impl Input + Print + AllocGlobal)) -> io::Result<()> {
     let alloc = rt.alloc();
     let mut section = Section::new(alloc, "Cases in no section")?;
     let mut case = Case::new(alloc);
@@ -161,10 +160,10 @@ fn main(rt: HostRuntime) -> io::Result<()> {
             continue;
         }
         // Any other line ends the case.
-        section.replay(&rt, &case)?;
+        section.replay(rt, &case)?;
         case = Case::new(alloc);
         if let Some(name) = after(line, "#") {
-            section.print(&rt)?;
+            section.print(rt)?;
             section = Section::new(alloc, name)?;
         } else if let Some(heading) = after(line, "##") {
             section.heading = String::from_str(alloc, heading)?;
@@ -172,6 +171,6 @@ fn main(rt: HostRuntime) -> io::Result<()> {
             println!(rt; "line {number} has no mark: {line}")?;
         }
     }
-    section.replay(&rt, &case)?;
-    section.print(&rt)
+    section.replay(rt, &case)?;
+    section.print(rt)
 }
