@@ -23,9 +23,9 @@ struct Case {
 
 // A section: its name, the last heading, and the counts of its cases so far.
 #[derive(Drop)]
-struct Section {
-    name: String,
-    heading: String,
+struct Section<'a> {
+    name: &'a str,
+    heading: &'a str,
     agree: u32,
     differ: u32,
 }
@@ -68,30 +68,43 @@ impl Case {
 
     // Adds a line, if it belongs to a case.
     fn add(&mut self, line: &str) -> Result<bool, AllocError> {
-        if let Some(text) = after(line, ">") {
-            self.script.push_str(text)?;
-            self.script.push('\n')?;
-        } else if let Some(text) = after(line, "<") {
-            self.wanted.written.extend_from_slice(text.as_bytes())?;
-            self.wanted.written.push(b'\n')?;
-        } else if let Some(text) = after(line, "!") {
-            self.wanted.refusal.push_str(text)?;
-            self.wanted.refusal.push('\n')?;
-        } else {
-            return Ok(false);
+        let (mark, text) = parts(line);
+        match mark {
+            ">" => writeln!(self.script, "{text}")?,
+            "<" => {
+                self.wanted.written.extend_from_slice(text.as_bytes())?;
+                self.wanted.written.push(b'\n')?;
+            }
+            "!" => writeln!(self.wanted.refusal, "{text}")?,
+            _ => return Ok(false),
         }
         Ok(true)
     }
+
+    // Prints the case, its heading, and the outcome that came.
+    fn print(
+        &self,
+        rt: &(impl Print + AllocGlobal),
+        heading: &str,
+        outcome: &Outcome,
+    ) -> io::Result<()> {
+        print_lines(rt, "##", heading)?;
+        print_lines(rt, ">", self.script.as_str())?;
+        println!(rt; "wanted")?;
+        self.wanted.print(rt)?;
+        println!(rt; "came")?;
+        outcome.print(rt)
+    }
 }
 
-impl Section {
-    fn new(alloc: Global, name: &str) -> Result<Section, AllocError> {
-        Ok(Section {
-            name: String::from_str(alloc, name)?,
-            heading: String::new(alloc),
+impl<'a> Section<'a> {
+    fn new(name: &'a str) -> Section<'a> {
+        Section {
+            name,
+            heading: "",
             agree: 0,
             differ: 0,
-        })
+        }
     }
 
     // Runs a case, and prints it if it differs.
@@ -102,15 +115,27 @@ impl Section {
         let outcome = Outcome::of(rt.alloc(), case.script.as_str())?;
         if outcome == case.wanted {
             self.agree = self.agree.saturating_add(1);
-            return Ok(());
+            Ok(())
+        } else {
+            self.differ = self.differ.saturating_add(1);
+            case.print(rt, self.heading, &outcome)
         }
-        self.differ = self.differ.saturating_add(1);
-        print_lines(rt, "##", self.heading.as_str())?;
-        print_lines(rt, ">", case.script.as_str())?;
-        println!(rt; "wanted")?;
-        case.wanted.print(rt)?;
-        println!(rt; "came")?;
-        outcome.print(rt)
+    }
+
+    // Reads the line with this number, which belongs to no case.
+    fn read(&mut self, rt: &impl Print, number: u32, line: &'a str) -> io::Result<()> {
+        let (mark, text) = parts(line);
+        match mark {
+            "#" => {
+                self.print(rt)?;
+                *self = Section::new(text);
+            }
+            "##" => self.heading = text,
+            "//" => {}
+            _ if line.is_empty() => {}
+            _ => println!(rt; "line {number} has no mark: {line}")?,
+        }
+        Ok(())
     }
 
     // Prints the counts, if there is a case.
@@ -128,15 +153,9 @@ impl Section {
     }
 }
 
-// The text after the mark of a line, if the line has this mark. After a mark is nothing, or a space
-// and a text.
-fn after<'a>(line: &'a str, mark: &str) -> Option<&'a str> {
-    let rest = line.strip_prefix(mark)?;
-    if rest.is_empty() {
-        Some(rest)
-    } else {
-        rest.strip_prefix(" ")
-    }
+// The mark of a line, and its text. After the mark is nothing, or a space and the text.
+fn parts(line: &str) -> (&str, &str) {
+    line.split_once(' ').unwrap_or((line, ""))
 }
 
 fn print_lines(rt: &impl Print, mark: &str, text: &str) -> io::Result<()> {
@@ -146,31 +165,25 @@ fn print_lines(rt: &impl Print, mark: &str, text: &str) -> io::Result<()> {
     Ok(())
 }
 
-/// Runs the cases of standard input, and prints the counts.
-pub fn print(rt: &(impl Input + Print + AllocGlobal)) -> io::Result<()> {
-    let alloc = rt.alloc();
-    let mut section = Section::new(alloc, "Cases in no section")?;
-    let mut case = Case::new(alloc);
+// Runs the cases of this input, and prints the counts.
+fn replay(rt: &(impl Print + AllocGlobal), input: &str) -> io::Result<()> {
+    let mut section = Section::new("Cases in no section");
+    let mut case = Case::new(rt.alloc());
     let mut number = 0u32;
-    for line in rt.lines(alloc) {
-        let line = line?;
-        let line = line.as_str();
+    for line in input.lines() {
         number = number.saturating_add(1);
-        if case.add(line)? {
-            continue;
-        }
-        // Any other line ends the case.
-        section.replay(rt, &case)?;
-        case = Case::new(alloc);
-        if let Some(name) = after(line, "#") {
-            section.print(rt)?;
-            section = Section::new(alloc, name)?;
-        } else if let Some(heading) = after(line, "##") {
-            section.heading = String::from_str(alloc, heading)?;
-        } else if !line.is_empty() && after(line, "//").is_none() {
-            println!(rt; "line {number} has no mark: {line}")?;
+        if !case.add(line)? {
+            // Any other line ends the case.
+            section.replay(rt, &case)?;
+            case = Case::new(rt.alloc());
+            section.read(rt, number, line)?;
         }
     }
     section.replay(rt, &case)?;
     section.print(rt)
+}
+
+/// Runs the cases of standard input, and prints the counts.
+pub fn print(rt: &(impl Input + Print + AllocGlobal)) -> io::Result<()> {
+    replay(rt, io::read_to_string(rt.alloc(), rt.reader())?.as_str())
 }

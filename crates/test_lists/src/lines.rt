@@ -45,14 +45,33 @@ fn agree(
     }
 }
 
-// The words in quotes, and `short_equals`.
-fn shown_words(alloc: Global, words: &[&[u8]], short_equals: bool) -> Result<String, AllocError> {
-    let mut text = String::new(alloc);
+// Whether both readers agree on these words.
+fn read_alike(
+    alloc: Global,
+    words: &[&[u8]],
+    short_equals: bool,
+    table: &Table,
+) -> Result<bool, AllocError> {
+    let found = read_items(alloc, words_from(alloc, words)?, short_equals, table);
+    agree(
+        alloc,
+        &plain::read(alloc, words, short_equals, table),
+        &found,
+    )
+}
+
+// Adds the words in quotes, and `short_equals`.
+fn push_words(text: &mut String, words: &[&[u8]], short_equals: bool) -> Result<(), AllocError> {
     for word in words {
-        push_quoted(&mut text, word)?;
+        push_quoted(text, word)?;
         text.push(' ')?;
     }
-    text.push_str(if short_equals { "on" } else { "off" })?;
+    text.push_str(if short_equals { "on" } else { "off" })
+}
+
+fn shown_words(alloc: Global, words: &[&[u8]], short_equals: bool) -> Result<String, AllocError> {
+    let mut text = String::new(alloc);
+    push_words(&mut text, words, short_equals)?;
     Ok(text)
 }
 
@@ -65,14 +84,7 @@ impl Tally {
         short_equals: bool,
         table: &Table,
     ) -> Result<(), AllocError> {
-        let copied = words_from(alloc, words)?;
-        let plain = plain::read(alloc, words, short_equals, table);
-        let agrees = agree(
-            alloc,
-            &plain,
-            &read_items(alloc, copied, short_equals, table),
-        )?;
-        if agrees {
+        if read_alike(alloc, words, short_equals, table)? {
             self.agree();
         } else {
             self.differ(shown_words(alloc, words, short_equals)?);

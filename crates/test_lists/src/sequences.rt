@@ -9,9 +9,8 @@
 
 mod step;
 
-use crate::sequences::step::{STEPS, Step, is_last, made, replayed};
+use crate::sequences::step::{STEPS, Step, is_last, is_replayed, made};
 use lexopt_base::{Error, Parser};
-use lexopt_calls::reply::Reply;
 use std::alloc::Global;
 use std::io;
 use test_helpers::lists::list_of;
@@ -35,16 +34,6 @@ struct Place {
     calls: u32,
 }
 
-// Whether `replay` has this reply for the call. It is a function of its own for a short proof.
-fn is_replayed(
-    alloc: Global,
-    parser: &mut Parser,
-    step: Step,
-    reply: &Reply,
-) -> Result<bool, Error> {
-    Ok(replayed(alloc, parser, step)? == *reply)
-}
-
 impl Tried {
     fn fault(&mut self, what: &'static str) {
         if self.fault.is_none() {
@@ -56,11 +45,11 @@ impl Tried {
     // sequence continues after it.
     fn call(&mut self, alloc: Global, place: &mut Place, step: Step) -> Result<bool, Error> {
         let mut copy = place.parser.clone()?;
-        let reply = made(alloc, &mut place.parser, step)?;
-        if !is_replayed(alloc, &mut copy, step, &reply)? {
+        let found = made(alloc, &mut place.parser, step);
+        if !is_replayed(alloc, &mut copy, step, &found)? {
             self.fault("replay has another reply");
         }
-        Ok(!is_last(&reply) && self.is_short(place.calls))
+        Ok(!is_last(&found) && self.is_short(place.calls))
     }
 
     // Whether a sequence of this many calls is not too long.

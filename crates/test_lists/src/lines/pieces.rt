@@ -32,10 +32,14 @@ impl Piece<'_> {
 
 // How many of the first bytes are in the ranges of this row.
 fn fitting(row: &[(u8, u8)], bytes: &[u8]) -> usize {
-    row.iter()
-        .zip(bytes)
-        .take_while(|(range, byte)| range.0 <= **byte && **byte <= range.1)
-        .count()
+    let mut count = 0usize;
+    for (range, byte) in row.iter().zip(bytes) {
+        if *byte < range.0 || range.1 < *byte {
+            break;
+        }
+        count = count.saturating_add(1);
+    }
+    count
 }
 
 // The number of the character with these bytes: 7, 5, 4 or 3 bits of the first byte, and 6 bits of
@@ -120,19 +124,20 @@ pub fn push_quoted(text: &mut String, bytes: &[u8]) -> Result<(), AllocError> {
 
 // Adds a character inside quotes.
 fn push_escaped(text: &mut String, character: char) -> Result<(), AllocError> {
-    match character {
-        '"' => text.push_str("\\\""),
-        '\\' => text.push_str("\\\\"),
-        '\t' => text.push_str("\\t"),
-        '\n' => text.push_str("\\n"),
-        '\r' => text.push_str("\\r"),
-        '\0' => text.push_str("\\0"),
+    let escaped = match character {
+        '"' => "\\\"",
+        '\\' => "\\\\",
+        '\t' => "\\t",
+        '\n' => "\\n",
+        '\r' => "\\r",
+        '\0' => "\\0",
         '\x01'..='\x1F' | '\x7F' => {
             let code = u32::from(character);
-            write!(text, "\\u{{{code:x}}}")
+            return write!(text, "\\u{{{code:x}}}");
         }
-        _ => text.push(character),
-    }
+        _ => return text.push(character),
+    };
+    text.push_str(escaped)
 }
 
 // Adds the bytes of a damaged piece inside quotes.

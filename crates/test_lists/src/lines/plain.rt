@@ -114,30 +114,37 @@ impl Name {
     }
 }
 
-// The refusal of an option that needs a value and has none.
-fn missing(alloc: Global, name: &Name) -> Result<Refusal, AllocError> {
-    let mut message = String::from_str(alloc, "missing argument for option '")?;
-    name.push_to(&mut message)?;
-    message.push('\'')?;
-    Ok(Refusal::Message(message))
+// Adds the message of an option that needs a value and has none.
+fn push_missing(message: &mut String, name: &Name) -> Result<(), AllocError> {
+    message.push_str("missing argument for option '")?;
+    name.push_to(message)?;
+    message.push('\'')
 }
 
-// The refusal of a flag with this joined value.
-fn unexpected(alloc: Global, name: &Name, value: &[u8]) -> Result<Refusal, AllocError> {
-    let mut message = String::from_str(alloc, "unexpected argument for option '")?;
-    name.push_to(&mut message)?;
+// Adds the message of a flag with this joined value.
+fn push_unexpected(message: &mut String, name: &Name, value: &[u8]) -> Result<(), AllocError> {
+    message.push_str("unexpected argument for option '")?;
+    name.push_to(message)?;
     message.push_str("': ")?;
-    push_quoted(&mut message, value)?;
-    Ok(Refusal::Message(message))
+    push_quoted(message, value)
+}
+
+// The refusal of an option, with its joined value if there is one.
+fn refused(alloc: Global, name: &Name, value: Option<&[u8]>) -> Refusal {
+    let mut message = String::new(alloc);
+    let added = match value {
+        Some(value) => push_unexpected(&mut message, name, value),
+        None => push_missing(&mut message, name),
+    };
+    match added {
+        Ok(()) => Refusal::Message(message),
+        Err(_) => Refusal::NoMemory,
+    }
 }
 
 // Whether a word is a plain word, which an option of several values takes.
 fn is_plain(word: &[u8]) -> bool {
-    match word {
-        b"-" => true,
-        [b'-', ..] => false,
-        _ => true,
-    }
+    word.first() != Some(&b'-') || word.len() == 1
 }
 
 // What follows an option in its cluster.
@@ -178,10 +185,10 @@ impl Reader<'_> {
     fn close(&mut self) -> Result<(), Refusal> {
         match mem::replace(&mut self.pending, Pending::Nothing) {
             Pending::Nothing => {}
-            Pending::Value(name) => return Err(missing(self.alloc, &name)?),
+            Pending::Value(name) => return Err(refused(self.alloc, &name, None)),
             Pending::Values(name, values) => {
                 if values.is_empty() {
-                    return Err(missing(self.alloc, &name)?);
+                    return Err(refused(self.alloc, &name, None));
                 }
                 self.items.push(name.with_values(values))?;
             }
@@ -221,7 +228,7 @@ impl Reader<'_> {
 
     fn read_flag(&mut self, name: Name, after: After<'_>) -> Result<bool, Refusal> {
         match after {
-            After::Joined(value) => Err(unexpected(self.alloc, &name, value)?),
+            After::Joined(value) => Err(refused(self.alloc, &name, Some(value))),
             After::Attached(_rest) => {
                 self.items.push(name.with_value(None))?;
                 Ok(false)
@@ -255,16 +262,13 @@ impl Reader<'_> {
 
     fn read_several(&mut self, name: Name, after: After<'_>) -> Result<bool, Refusal> {
         let mut values = Vec::new(self.alloc);
-        match after {
-            After::Joined(value) => {
-                values.push(self.word(value)?)?;
-                self.items.push(name.with_values(values))?;
-            }
-            After::Attached(value) => {
-                values.push(self.word(value)?)?;
-                self.pending = Pending::Values(name, values);
-            }
-            After::Nothing => self.pending = Pending::Values(name, values),
+        if let After::Joined(value) | After::Attached(value) = after {
+            values.push(self.word(value)?)?;
+        }
+        if let After::Joined(_) = after {
+            self.items.push(name.with_values(values))?;
+        } else {
+            self.pending = Pending::Values(name, values);
         }
         Ok(true)
     }
@@ -314,6 +318,13 @@ impl Reader<'_> {
         self.close()?;
         self.read_own(word)
     }
+
+    fn read_words(&mut self, words: &[&[u8]]) -> Result<(), Refusal> {
+        for word in words {
+            self.read_word(word)?;
+        }
+        self.close()
+    }
 }
 
 /// The items of the words by this table, or the refusal.
@@ -331,9 +342,6 @@ pub fn read(
         pending: Pending::Nothing,
         after_separator: false,
     };
-    for word in words {
-        reader.read_word(word)?;
-    }
-    reader.close()?;
+    reader.read_words(words)?;
     Ok(reader.items)
 }

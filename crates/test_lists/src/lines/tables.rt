@@ -2,8 +2,8 @@
 use lexopt_items::items::Table;
 use std::alloc::{AllocError, Global};
 
-/// Which lists of a table some options are in: the name of the choice, and whether they are in those
-/// of one value, of an optional value and of several values.
+/// Which lists of a table some options are in: the name of the choice, and whether they are in
+/// those of one value, of an optional value and of several values.
 #[derive(Clone, Copy)]
 pub struct Lists(&'static str, bool, bool, bool);
 
@@ -25,13 +25,13 @@ pub static OVERLAPS: [Lists; 4] = [
 
 // A group of short options and of long options.
 #[derive(Clone, Copy)]
-struct Options(&'static str, &'static [&'static str]);
+struct Options(&'static [char], &'static [&'static str]);
 
-const LETTER: Options = Options("a", &["a"]);
+const LETTER: Options = Options(&['a'], &["a"]);
 
-const DAMAGE: Options = Options("\u{FFFD}", &["\u{FFFD}"]);
+const DAMAGE: Options = Options(&['\u{FFFD}'], &["\u{FFFD}"]);
 
-const MARKS: Options = Options("-=", &["", "-"]);
+const MARKS: Options = Options(&['-', '='], &["", "-"]);
 
 /// A table: the lists that have the letter, the character U+FFFD, and the marks.
 #[derive(Clone, Copy)]
@@ -50,9 +50,7 @@ fn add_to(
     shorts: &mut Vec<char>,
     longs: &mut Vec<String>,
 ) -> Result<(), AllocError> {
-    for option in options.0.chars() {
-        shorts.push(option)?;
-    }
+    shorts.extend_from_slice(options.0)?;
     for name in options.1 {
         longs.push(String::from_str(alloc, name)?)?;
     }

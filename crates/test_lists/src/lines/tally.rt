@@ -41,11 +41,10 @@ impl Tally {
     pub fn print(&self, rt: &impl Print, name: &str) -> io::Result<()> {
         let agreed = self.agreed;
         let differed = self.differed;
-        match &self.first {
-            None => println!(rt; "{name}: {agreed} agreed, {differed} differed"),
-            Some(first) => {
-                println!(rt; "{name}: {agreed} agreed, {differed} differed, first {first}")
-            }
-        }
+        let (mark, first) = match &self.first {
+            None => ("", ""),
+            Some(first) => (", first ", first.as_str()),
+        };
+        println!(rt; "{name}: {agreed} agreed, {differed} differed{mark}{first}")
     }
 }

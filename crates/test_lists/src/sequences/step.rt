@@ -18,60 +18,64 @@ pub enum Step {
 
 pub static STEPS: [Step; 4] = [Step::Next, Step::Value, Step::Optional, Step::Values];
 
-// The reply for an error of the parser. Any other error, such as `OutOfMemory`, is returned.
-fn refusal(error: Error) -> Result<Reply, Error> {
-    match error {
-        Error::MissingValue { option } => Ok(Reply::Missing(option)),
-        Error::UnexpectedValue { option, value } => Ok(Reply::Unexpected(option, value)),
-        error => Err(error),
-    }
+fn long_name(alloc: Global, name: &str) -> Result<Reply, Error> {
+    Ok(Reply::LongName(String::from_str(alloc, name)?))
 }
 
 fn made_next(alloc: Global, parser: &mut Parser) -> Result<Reply, Error> {
-    match parser.next() {
-        Ok(Some(Arg::Short(option))) => Ok(Reply::Short(option)),
-        Ok(Some(Arg::Long(name))) => Ok(Reply::LongName(String::from_str(alloc, name)?)),
-        Ok(Some(Arg::Value(word))) => Ok(Reply::Positional(word)),
-        Ok(None) => Ok(Reply::End),
-        Err(error) => refusal(error),
+    match parser.next()? {
+        Some(Arg::Short(option)) => Ok(Reply::Short(option)),
+        Some(Arg::Long(name)) => long_name(alloc, name),
+        Some(Arg::Value(word)) => Ok(Reply::Positional(word)),
+        None => Ok(Reply::End),
     }
 }
 
-fn made_values(alloc: Global, parser: &mut Parser) -> Result<Reply, Error> {
-    match parser.values() {
-        Ok(view) => Ok(Reply::Items(view.collect(alloc)?)),
-        Err(error) => refusal(error),
-    }
-}
-
-/// The reply of a call that is made by itself.
+/// The reply of a call that is made by itself, or its error.
 pub fn made(alloc: Global, parser: &mut Parser, step: Step) -> Result<Reply, Error> {
     match step {
         Step::Next => made_next(alloc, parser),
-        Step::Value => match parser.value() {
-            Ok(word) => Ok(Reply::Taken(word)),
-            Err(error) => refusal(error),
-        },
+        Step::Value => Ok(Reply::Taken(parser.value()?)),
         Step::Optional => Ok(Reply::Maybe(parser.optional_value())),
-        Step::Values => made_values(alloc, parser),
+        Step::Values => Ok(Reply::Items(parser.values()?.collect(alloc)?)),
     }
 }
 
-/// The reply of the same call by `replay`.
-pub fn replayed(alloc: Global, parser: &mut Parser, step: Step) -> Result<Reply, Error> {
+// Whether `replay` has this reply for a call that was made so.
+fn agree(made: &Result<Reply, Error>, reply: &Reply) -> bool {
+    match (made, reply) {
+        (Ok(made), _) => made == reply,
+        (Err(Error::MissingValue { option }), Reply::Missing(name)) => option == name,
+        (Err(Error::UnexpectedValue { option, value }), Reply::Unexpected(name, word)) => {
+            option == name && value == word
+        }
+        _ => false,
+    }
+}
+
+/// Whether `replay` makes the same call so.
+pub fn is_replayed(
+    alloc: Global,
+    parser: &mut Parser,
+    step: Step,
+    made: &Result<Reply, Error>,
+) -> Result<bool, Error> {
     let call = match step {
         Step::Next => Call::Next,
         Step::Value => Call::Value,
         Step::Optional => Call::Optional,
         Step::Values => Call::Values(ALL),
     };
-    match replay(alloc, parser, &[call])?.pop() {
-        Some(reply) => Ok(reply),
-        None => Ok(Reply::Busy),
+    match replay(alloc, parser, &[call])?.as_slice() {
+        [reply] => Ok(agree(made, reply)),
+        _ => Ok(false),
     }
 }
 
-/// Whether a sequence ends after this reply.
-pub fn is_last(reply: &Reply) -> bool {
-    matches!(reply, Reply::End | Reply::Missing(_) | Reply::Maybe(None))
+/// Whether a sequence ends after this call.
+pub fn is_last(made: &Result<Reply, Error>) -> bool {
+    match made {
+        Ok(Reply::End | Reply::Maybe(None)) | Err(Error::MissingValue { .. }) => true,
+        _ => false,
+    }
 }
