@@ -33,6 +33,11 @@ fn are_read(alloc: Global, words: &[OsString], name: Option<&str>) -> Result<boo
     has_all_words(&Arguments { words }, alloc, words, name)
 }
 
+// The same for the words of a line.
+fn is_read(alloc: Global, line: &[&[u8]], name: Option<&str>) -> Result<bool, Error> {
+    are_read(alloc, &words_from(alloc, line)?, name)
+}
+
 // A word of this length. Its bytes count up from `first`, and go on with 01 after FF.
 fn word_of_length(alloc: Global, length: usize, first: u8) -> Result<OsString, AllocError> {
     let mut bytes = Vec::with_capacity(alloc, length)?;
@@ -44,8 +49,11 @@ fn word_of_length(alloc: Global, length: usize, first: u8) -> Result<OsString, A
     Ok(OsString::from_vec(bytes))
 }
 
+// A line with damage.
+const NO_TEXT: [&[u8]; 2] = [b"tool", b"foo\xff"];
+
 // Lines, each with the name of its parser.
-static LINES: [(&[&[u8]], Option<&str>); 8] = [
+static LINES: [(&[&[u8]], Option<&str>); 9] = [
     (&[], None),
     (&[b""], Some("")),
     (&[b"", b"", b"a", b""], Some("")),
@@ -57,15 +65,15 @@ static LINES: [(&[&[u8]], Option<&str>); 8] = [
     ),
     (&[b"\xfftool\xc2", b"-x"], Some("\u{FFFD}tool\u{FFFD}")),
     (&[b"\x80", b"\x80"], Some("\u{FFFD}")),
+    (&NO_TEXT, Some("tool")),
 ];
 
 #[test]
 fn lines_of_any_bytes(rt: HostRuntime) {
     for (line, name) in LINES.iter() {
-        let words = words_from(rt.alloc(), line).expect(&rt, "success");
         assert!(rt;
-            are_read(rt.alloc(), &words, *name).expect(&rt, "success"),
-            "{line:?}"
+            is_read(rt.alloc(), line, *name).expect(&rt, "success"),
+            "{name:?}"
         );
     }
 }
@@ -117,20 +125,19 @@ fn is_custom(alloc: Global, error: &Error, message: &str) -> Result<bool, AllocE
     Ok(matches!(error, Error::Custom(_)) && prints(alloc, error, message)?)
 }
 
-// Whether `from_env` refuses these words with this message.
-fn are_refused(alloc: Global, words: &[OsString], message: &str) -> Result<bool, AllocError> {
+// Whether `from_env` refuses a line with this message.
+fn is_refused(alloc: Global, line: &[&[u8]], message: &str) -> Result<bool, AllocError> {
+    let words = &words_from(alloc, line)?;
     match Parser::from_env(&(Arguments { words }, alloc), alloc) {
         Err(error) => is_custom(alloc, &error, message),
         Ok(_) => Ok(false),
     }
 }
 
-// `from_env` refuses a word with damage, and the other two calls read it.
+// `from_env` refuses a word with damage, which the other two calls read.
 #[test]
 fn words_that_are_no_text(rt: HostRuntime) {
-    let words = words_from(rt.alloc(), &[b"tool", b"foo\xff"]).expect(&rt, "success");
-    assert!(rt; are_refused(rt.alloc(), &words, "arguments unavailable").expect(&rt, "success"));
-    assert!(rt; are_read(rt.alloc(), &words, Some("tool")).expect(&rt, "success"));
+    assert!(rt; is_refused(rt.alloc(), &NO_TEXT, "arguments unavailable").expect(&rt, "success"));
 }
 
 // Whether `from_env` makes a parser with this name, whose unread words are those after the first.
@@ -143,13 +150,17 @@ fn are_texts<R: Env + AllocGlobal>(
     has_words(&mut parser, name, words.get(1..).unwrap_or(&[]))
 }
 
+// The same for the words of a line.
+fn is_text(alloc: Global, line: &[&[u8]], name: Option<&str>) -> Result<bool, Error> {
+    let words = &words_from(alloc, line)?;
+    are_texts(&(Arguments { words }, alloc), words, name)
+}
+
 #[test]
 fn words_that_are_texts(rt: HostRuntime) {
-    let words = words_from(rt.alloc(), &[b"tool", b"-x", b"\xc2\xb5"]).expect(&rt, "success");
-    let environment = (Arguments { words: &words }, rt.alloc());
-    assert!(rt; are_texts(&environment, &words, Some("tool")).expect(&rt, "success"));
-    let environment = (Arguments { words: &[] }, rt.alloc());
-    assert!(rt; are_texts(&environment, &[], None).expect(&rt, "success"));
+    let line: [&[u8]; 3] = [b"tool", b"-x", b"\xc2\xb5"];
+    assert!(rt; is_text(rt.alloc(), &line, Some("tool")).expect(&rt, "success"));
+    assert!(rt; is_text(rt.alloc(), &[], None).expect(&rt, "success"));
 }
 
 #[test]

@@ -26,8 +26,8 @@ fn optional_values(rt: HostRuntime) {
 // A copy of a parser has the same pending value.
 fn both_take(parser: &mut Parser) -> Result<bool, Error> {
     let is_read = reads_short(parser, 'a')?;
-    let mut copy = parser.clone()?;
-    Ok(is_read && takes(&mut copy, b"b")? && takes(parser, b"b")?)
+    let is_taken = takes(&mut parser.clone()?, b"b")?;
+    Ok(is_read && is_taken && takes(parser, b"b")?)
 }
 
 #[test]

@@ -15,7 +15,7 @@ enum Made {
     OfShort(char),
     OfLong(&'static str),
     OfWord(&'static [u8]),
-    OfValue(&'static str, &'static str),
+    OfValue(&'static str, &'static [u8]),
     // These bytes are not UTF-8.
     OfBytes(&'static [u8]),
     // This is the program's own message.
@@ -25,29 +25,29 @@ enum Made {
     OfAlloc,
 }
 
+fn text_of(rt: &(impl Abort + AllocGlobal), text: &str) -> String {
+    String::from_str(rt.alloc(), text).expect(rt, "memory")
+}
+
+fn word_of(rt: &(impl Abort + AllocGlobal), bytes: &[u8]) -> OsString {
+    OsString::from_bytes(rt.alloc(), bytes).expect(rt, "memory")
+}
+
 fn error_of(rt: &(impl Abort + AllocGlobal), made: Made) -> Error {
-    let alloc = rt.alloc();
     match made {
-        Made::MissingOf(option) => {
-            let option = Some(String::from_str(alloc, option).expect(rt, "memory"));
-            Error::MissingValue { option }
-        }
-        Made::OfShort(option) => Arg::Short(option).unexpected(alloc),
-        Made::OfLong(name) => Arg::Long(name).unexpected(alloc),
-        Made::OfWord(word) => {
-            let word = OsString::from_bytes(alloc, word).expect(rt, "memory");
-            Arg::Value(word).unexpected(alloc)
-        }
-        Made::OfValue(option, value) => {
-            let option = String::from_str(alloc, option).expect(rt, "memory");
-            let value = OsString::from_text(alloc, value).expect(rt, "memory");
-            Error::UnexpectedValue { option, value }
-        }
-        Made::OfBytes(word) => Error::from(OsString::from_bytes(alloc, word).expect(rt, "memory")),
+        Made::MissingOf(option) => Error::MissingValue {
+            option: Some(text_of(rt, option)),
+        },
+        Made::OfShort(option) => Arg::Short(option).unexpected(rt.alloc()),
+        Made::OfLong(name) => Arg::Long(name).unexpected(rt.alloc()),
+        Made::OfWord(word) => Arg::Value(word_of(rt, word)).unexpected(rt.alloc()),
+        Made::OfValue(option, value) => Error::UnexpectedValue {
+            option: text_of(rt, option),
+            value: word_of(rt, value),
+        },
+        Made::OfBytes(word) => Error::from(word_of(rt, word)),
         Made::OfStr(message) => Error::from(message),
-        Made::OfString(message) => {
-            Error::from(String::from_str(alloc, message).expect(rt, "memory"))
-        }
+        Made::OfString(message) => Error::from(text_of(rt, message)),
         Made::OfAlloc => Error::from(AllocError),
     }
 }
@@ -62,7 +62,7 @@ static MESSAGES: [(Made, &str); 11] = [
         "unexpected argument \"\\0\\r\\u{1f}\\xE2\\x82A\"",
     ),
     (
-        Made::OfValue("--", "\n"),
+        Made::OfValue("--", b"\n"),
         "unexpected argument for option '--': \"\\n\"",
     ),
     (Made::OfBytes(b""), "argument is invalid unicode: \"\""),
@@ -120,17 +120,31 @@ fn causes(rt: HostRuntime) {
     assert!(rt; has_cause(&rt, Made::OfShort('o'), None));
 }
 
+// Whether an error of a script prints this message, and has this status.
+fn ends_with(
+    alloc: Global,
+    error: RunError,
+    message: &str,
+    status: u8,
+) -> Result<bool, AllocError> {
+    Ok(error.to_string(alloc)?.as_str() == message && error.status() == status)
+}
+
+static RUN_ERRORS: [(RunError, &str, u8); 5] = [
+    (RunError::BadLine(12), "line 12 refused", 2),
+    (RunError::TooLong, "script too long", 2),
+    (RunError::ReadFailed, "read failed", 1),
+    (RunError::WriteFailed, "write failed", 1),
+    (RunError::NoMemory, "out of memory", 1),
+];
+
 #[test]
 fn run_errors(rt: HostRuntime) {
-    for (error, message, status) in [
-        (RunError::BadLine(12), "line 12 refused", 2),
-        (RunError::TooLong, "script too long", 2),
-        (RunError::ReadFailed, "read failed", 1),
-        (RunError::WriteFailed, "write failed", 1),
-        (RunError::from(AllocError), "out of memory", 1),
-    ] {
-        let printed = error.to_string(rt.alloc()).expect(&rt, "success");
-        assert_eq!(rt; printed.as_str(), message);
-        assert_eq!(rt; error.status(), status);
+    for (error, message, status) in RUN_ERRORS.iter() {
+        assert!(rt;
+            ends_with(rt.alloc(), *error, message, *status).expect(&rt, "success"),
+            "{message}"
+        );
     }
+    assert!(rt; RunError::from(AllocError) == RunError::NoMemory);
 }

@@ -33,7 +33,7 @@ fn names(rt: HostRuntime) {
     for (words, name) in NAMES.iter() {
         assert!(rt;
             has_name(rt.alloc(), words, *name).expect(&rt, "success"),
-            "{words:?}"
+            "{name:?}"
         );
     }
 }

@@ -1,8 +1,13 @@
 //! Lists of calls, and their replies as values. The cases of `test_lists` have the text of replies.
-use lexopt::replay::{Call, replay};
+use lexopt::replay::{Call, Reply, replay};
 use lexopt::{Error, OsString};
 use std::alloc::{AllocError, Global};
 use test_helpers::parsers::parser_of;
+
+// Whether `Debug` writes these replies so.
+fn are_shown(alloc: Global, found: &[Reply], replies: &str) -> Result<bool, Error> {
+    Ok(format!(in alloc; "{found:?}")?.as_str() == replies)
+}
 
 // Whether these calls on a line of these words have these replies, as `Debug` writes them.
 fn has_replies(
@@ -11,8 +16,11 @@ fn has_replies(
     calls: &[Call],
     replies: &str,
 ) -> Result<bool, Error> {
-    let found = replay(alloc, &mut parser_of(alloc, words)?, calls)?;
-    Ok(format!(in alloc; "{found:?}")?.as_str() == replies)
+    are_shown(
+        alloc,
+        &replay(alloc, &mut parser_of(alloc, words)?, calls)?,
+        replies,
+    )
 }
 
 // The call `RawIf`, which scripts do not have: it takes the next word if it is this one.

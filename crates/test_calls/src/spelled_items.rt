@@ -1,7 +1,7 @@
 //! Items that `spell` turns into words, and what its errors print. The forms of all kinds of items
 //! are worked examples of `lexopt_laws`.
 use lexopt::Error;
-use lexopt::replay::{Item, read_items};
+use lexopt::replay::{Item, Table, read_items};
 use lexopt::spell::{Reason, SpellError, spell};
 use std::alloc::Global;
 use test_helpers::items::{are_words, table_of_each_kind};
@@ -23,16 +23,15 @@ const WORDS: [&[u8]; 12] = [
     b"-f",
 ];
 
-// The items of these words.
-fn items_of(alloc: Global, words: &[&[u8]]) -> Result<Vec<Item>, Error> {
-    let table = table_of_each_kind(alloc)?;
-    read_items(alloc, words_from(alloc, words)?, true, &table)
+// The items of these words by this table.
+fn items_of(alloc: Global, words: &[&[u8]], table: &Table) -> Result<Vec<Item>, Error> {
+    read_items(alloc, words_from(alloc, words)?, true, table)
 }
 
 // Whether the items of the words are spelled by the same words.
 fn are_spelled(alloc: Global) -> Result<bool, Error> {
     let table = table_of_each_kind(alloc)?;
-    match spell(alloc, &items_of(alloc, &WORDS)?, true, &table) {
+    match spell(alloc, &items_of(alloc, &WORDS, &table)?, true, &table) {
         Ok(words) => Ok(are_words(&words, &WORDS)),
         Err(_) => Ok(false),
     }
@@ -46,7 +45,7 @@ fn spelled(rt: HostRuntime) {
 // The error of an option after a positional that needs the separator.
 fn error_past_the_separator(alloc: Global) -> Result<Option<SpellError>, Error> {
     let table = table_of_each_kind(alloc)?;
-    let mut items = items_of(alloc, &[b"-v", b"--", b"-x"])?;
+    let mut items = items_of(alloc, &[b"-v", b"--", b"-x"], &table)?;
     items.reverse();
     Ok(spell(alloc, &items, true, &table).err())
 }
