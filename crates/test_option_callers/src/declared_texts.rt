@@ -6,8 +6,10 @@ ghost use Rattle.lexopt_options_spec.specs.Declaration.{is_sound};
 ghost use Rattle.test_option_callers.specs.Printed.{IsErrorOf, IsFaultOf, IsUsageOf, declaration_line};
 ghost use Rattle.test_option_callers.specs.Printed.{IsErrorWith, IsUsageWith, names_line, refused_line};
 ghost use Rattle.test_option_callers.specs.Printed.{report_line, two_options};
+ghost use Rattle.test_option_callers.specs.Texts.{error_line};
 
 use crate::declared::{Flag, Value, Word};
+use lexopt_commands::CommandError;
 use lexopt_options::{
     Count, Declaration, DeclarationError, Declared, Mistake, Names, Options, Positional, Reason,
     Refused, Report, UsageError, Words,
@@ -19,6 +21,13 @@ pub fn names_text(alloc: Global, names: &Names<'_>) -> Result<String, AllocError
     ensures { IfOk result (λ text. string_bytes text ≡ names_line names.now) }
 {
     format!(in alloc; "{names}")
+}
+
+/// Prints why a command cannot be declared.
+pub fn command_error_text(alloc: Global, error: &CommandError<'_>) -> Result<String, AllocError>
+    ensures { IfOk result (λ text. string_bytes text ≡ error_line error.now) }
+{
+    format!(in alloc; "{error}")
 }
 
 /// Prints why an option cannot be declared.

@@ -3,7 +3,6 @@
 #![tactic(auto)]
 
 pub mod command_lines;
-pub mod command_texts;
 pub mod commands;
 pub mod declared;
 pub mod declared_keys;

@@ -1,33 +1,33 @@
 //! The declaration that the tests share, and the text of what is read.
 use lexopt_options::{
-    Answer, Declaration, Declared, Leading, Line, Names, Options, Parsed, Positional, declare,
+    Answer, Declaration, Declared, Leading, Line, Names, Options, Positional, declare,
 };
 use std::alloc::{AllocError, Global};
 
-#[derive(Debug, Clone, Copy, PartialEq, Eq)]
+#[derive(Debug, Clone, Copy)]
 pub enum Flag {
     Verbose,
 }
 
-#[derive(Debug, Clone, Copy, PartialEq, Eq)]
+#[derive(Debug, Clone, Copy, PartialEq)]
 pub enum Value {
     Output,
     User,
 }
 
-#[derive(Debug, Clone, Copy, PartialEq, Eq)]
+#[derive(Debug, Clone, Copy)]
 pub enum Word {
     File,
     Source,
     Target,
 }
 
-#[derive(Debug, Clone, Copy, PartialEq, Eq)]
+#[derive(Debug, Clone, Copy, PartialEq)]
 pub enum Maybe {
     Backup,
 }
 
-#[derive(Debug, Clone, Copy, PartialEq, Eq)]
+#[derive(Debug, Clone, Copy, PartialEq)]
 pub enum Values {
     Exclude,
 }
@@ -97,16 +97,8 @@ pub fn text_of_answer(
     answer: Result<ArchiveAnswer<'_>, AllocError>,
 ) -> Result<String, AllocError> {
     match answer? {
-        Answer::Parsed(parsed) => debug_of(alloc, &parsed),
+        Answer::Parsed(parsed) => format!(in alloc; "{parsed:?}"),
         Answer::Text(text) => Ok(text),
         Answer::Refused(refused) => refused.to_string(alloc),
     }
-}
-
-/// What was read, as `Debug` writes it.
-pub fn debug_of(
-    alloc: Global,
-    parsed: &[Parsed<Flag, Value, Word, Maybe, Values>],
-) -> Result<String, AllocError> {
-    format!(in alloc; "{parsed:?}")
 }

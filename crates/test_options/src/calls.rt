@@ -1,6 +1,6 @@
 //! Each public call of `Options` on a line or a declaration.
 use crate::archive::{
-    ARCHIVE, ArchiveLeading, ArchiveLine, Flag, archive, archive_of_files, debug_of, text_of_answer,
+    ARCHIVE, ArchiveLeading, ArchiveLine, Flag, archive, archive_of_files, text_of_answer,
 };
 use lexopt_options::{
     DeclarationError, Declared, Leading, Line, Names, Options, OsString, Reason, Request, Shell,
@@ -79,7 +79,7 @@ static ROWS: [(Call, &[u8], &str); 11] = [
 // refusal.
 fn text_of_line(alloc: Global, line: &ArchiveLine<'_>) -> Result<String, AllocError> {
     match line {
-        Line::Parsed(parsed) => debug_of(alloc, parsed),
+        Line::Parsed(parsed) => format!(in alloc; "{parsed:?}"),
         Line::Asked(asked) => format!(in alloc; "{asked:?}"),
         Line::Refused(refused) => format!(in alloc; "{:?}, then {refused}", refused.before),
     }

@@ -8,26 +8,11 @@ use test_helpers::parsers::words_of;
 // Lines, a variable and its value, and the beginning of what is read or printed. The last value has
 // more bytes than the program reads.
 static ROWS: [(&[u8], &str, Option<&[u8]>, &str); 6] = [
-    (b"archive -v", SHELL, None, "[Flag(Verbose)]"),
-    (b"archive -v", SHELL, Some(b""), "[Flag(Verbose)]"),
-    (
-        b"archive -v",
-        SHELL,
-        Some(b"zsh_source"),
-        "#compdef archive\n",
-    ),
-    (
-        b"archive -v",
-        SHELL,
-        Some(b"fish_complete"),
-        "-v\ttell more\n",
-    ),
-    (
-        b"archive -v",
-        SHELL,
-        Some(b"bash_completely_of_course"),
-        NOT_KNOWN,
-    ),
+    (V, SHELL, None, "[Flag(Verbose)]"),
+    (V, SHELL, Some(b""), "[Flag(Verbose)]"),
+    (V, SHELL, Some(b"zsh_source"), "#compdef archive\n"),
+    (V, SHELL, Some(b"fish_complete"), "-v\ttell more\n"),
+    (V, SHELL, Some(b"bash_completely_of_course"), NOT_KNOWN),
     (
         b"archive -h",
         "COLUMNS",
@@ -35,6 +20,8 @@ static ROWS: [(&[u8], &str, Option<&[u8]>, &str); 6] = [
         "Usage: archive [OPTION]...\n       [FILE]...\n",
     ),
 ];
+
+const V: &[u8] = b"archive -v";
 
 const SHELL: &str = "_ARCHIVE_COMPLETE";
 

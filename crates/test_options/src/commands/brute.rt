@@ -1,5 +1,6 @@
 //! Completion, compared with reading: after each line of at most two words, a name or a spelling is
 //! offered if and only if some line continues with it.
+use crate::brute::words_of;
 use crate::commands::git::{Flag, Task, Value, git};
 use lexopt_commands::{CommandLine, Step};
 use lexopt_options::{Asked, Leading, OsString, Parsed, Request};
@@ -37,18 +38,6 @@ enum Meaning {
     Refused,
 }
 
-// The words `before`, and then the words `after`.
-fn words_of(alloc: Global, before: &[&str], after: &[&str]) -> Result<Vec<OsString>, AllocError> {
-    let mut words = Vec::new(alloc);
-    for word in before {
-        words.push(OsString::from_text(alloc, word)?)?;
-    }
-    for word in after {
-        words.push(OsString::from_text(alloc, word)?)?;
-    }
-    Ok(words)
-}
-
 // The meaning of a line, with the kind of the general option at this place.
 fn meaning_of(line: &CommandLine<'_, Task, Flag, Value>, place: usize) -> Meaning {
     match line {
@@ -70,8 +59,11 @@ fn read(
     after: &[&str],
     place: usize,
 ) -> Result<Meaning, AllocError> {
-    let line = git().read(alloc, words_of(alloc, before, after)?)?;
-    Ok(meaning_of(&line, place))
+    let mut words = words_of(alloc, before)?;
+    for word in after {
+        words.push(OsString::from_text(alloc, word)?)?;
+    }
+    Ok(meaning_of(&git().read(alloc, words)?, place))
 }
 
 // Whether a line of these words asks for the help.
@@ -127,10 +119,8 @@ fn count_in(leading: &Leading<'_, Flag, Value>) -> Option<usize> {
 
 // How many options these words are, if they are general options and nothing else.
 fn count_of(alloc: Global, before: &[&str]) -> Result<Option<usize>, AllocError> {
-    let leading = git()
-        .options()
-        .read_leading(alloc, words_of(alloc, before, &[])?)?;
-    Ok(count_in(&leading))
+    let words = words_of(alloc, before)?;
+    Ok(count_in(&git().options().read_leading(alloc, words)?))
 }
 
 // Whether an option of this spelling can come after these words: they are general options and
@@ -158,7 +148,7 @@ fn has_line(text: &str, front: &str) -> bool {
 
 // What is offered for this typed word after these words, or `None` if a command is asked.
 fn offered(alloc: Global, before: &[&str], typed: &str) -> Result<Option<String>, AllocError> {
-    let words = words_of(alloc, before, &[])?;
+    let words = words_of(alloc, before)?;
     let typed = OsString::from_text(alloc, typed)?;
     match git().answer_request(alloc, Request::Completion(words, typed), 80)? {
         Step::Command(_, _, _) => Ok(None),
