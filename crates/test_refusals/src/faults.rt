@@ -170,39 +170,45 @@ fn has_result(
     Ok(runs_to(alloc, &mut script.as_slice(), wanted, b""))
 }
 
+// The first byte of a script, its length and its result.
+static LIMITS: [(u8, usize, Result<(), RunError>); 4] = [
+    (b'\n', 1_048_576, Ok(())),
+    (b'\n', 1_048_577, Err(RunError::TooLong)),
+    (b'x', 1_048_576, Err(RunError::BadLine(1))),
+    (b'x', 1_048_577, Err(RunError::TooLong)),
+];
+
 #[test]
 fn limits(rt: HostRuntime) -> Result<(), Fail> {
     assert!(rt; runs_to(rt.alloc(), &mut Endless, Err(RunError::TooLong), b""));
-    for (first, length, wanted) in [
-        (b'\n', 1_048_576, Ok(())),
-        (b'\n', 1_048_577, Err(RunError::TooLong)),
-        (b'x', 1_048_576, Err(RunError::BadLine(1))),
-        (b'x', 1_048_577, Err(RunError::TooLong)),
-    ] {
+    for (first, length, wanted) in LIMITS.iter() {
         assert!(rt;
-            has_result(rt.alloc(), first, length, wanted)?,
+            has_result(rt.alloc(), *first, *length, *wanted)?,
             "{first} {length}"
         );
     }
     Ok(())
 }
 
-// Scripts without a line feed at the end, with carriage returns, and with bytes that are not UTF-8.
+// Scripts without a line feed at the end, with carriage returns, and with bytes that are not UTF-8;
+// and what they write and return.
+static SCRIPTS: [(&[u8], &[u8], Result<(), RunError>); 8] = [
+    (b"", b"", Ok(())),
+    (b"w a\nnext", b"Value \"a\"\n", Ok(())),
+    (b"w a\r\nnext\n", b"Value \"a\\r\"\n", Ok(())),
+    (b"w \xff\nnext\n", b"Value \"\\xFF\"\n", Ok(())),
+    (b"w a\\q", b"", Err(RunError::BadLine(1))),
+    (b"w a\nnext\nw b", b"", Err(RunError::BadLine(3))),
+    (b"next\r\n", b"", Err(RunError::BadLine(1))),
+    (b"w a\n\xff\n", b"", Err(RunError::BadLine(2))),
+];
+
 #[test]
 fn line_ends_and_bytes(rt: HostRuntime) {
-    for (script, text, wanted) in [
-        (b"".as_slice(), b"".as_slice(), Ok(())),
-        (b"w a\nnext", b"Value \"a\"\n", Ok(())),
-        (b"w a\r\nnext\n", b"Value \"a\\r\"\n", Ok(())),
-        (b"w \xff\nnext\n", b"Value \"\\xFF\"\n", Ok(())),
-        (b"w a\\q", b"", Err(RunError::BadLine(1))),
-        (b"w a\nnext\nw b", b"", Err(RunError::BadLine(3))),
-        (b"next\r\n", b"", Err(RunError::BadLine(1))),
-        (b"w a\n\xff\n", b"", Err(RunError::BadLine(2))),
-    ] {
-        let mut reader = script;
+    for (script, text, wanted) in SCRIPTS.iter() {
+        let mut reader = *script;
         assert!(rt;
-            runs_to(rt.alloc(), &mut reader, wanted, text),
+            runs_to(rt.alloc(), &mut reader, *wanted, text),
             "{script:?}"
         );
     }

@@ -15,6 +15,8 @@ mod whole_lines;
 mod word_calls;
 
 use lexopt_options::{Declaration, Names, declare};
+use std::alloc::{AllocError, Global};
+use std::fmt::Display;
 use std::test::Fail;
 
 /// How a call went, or a call and the same call made again.
@@ -54,6 +56,17 @@ impl Outcome {
     }
 }
 
+/// How a call went that is expected to return what prints this text.
+pub fn printed_outcome(
+    alloc: Global,
+    printed: &impl Display,
+    wanted: &str,
+) -> Result<Outcome, AllocError> {
+    let mut text = String::with_capacity(alloc, 400)?;
+    write!(text, "{printed}")?;
+    Ok(Outcome::of(text.as_str() == wanted))
+}
+
 /// Fails a test, which names the call that ran out of memory.
 pub fn out_of_memory_in(call: &str) -> Result<(), Fail> {
     Err(Fail::new(format_args!("{call} ran out of memory")))
@@ -68,31 +81,15 @@ pub fn check_outcome(outcome: Outcome, call: &str) -> Result<(), Fail> {
     }
 }
 
-#[derive(Debug, Clone, Copy)]
-pub enum Flag {
-    Verbose,
-}
-
-#[derive(Debug, Clone, Copy)]
-pub enum Value {
-    Output,
-    User,
-}
-
-#[derive(Debug, Clone, Copy)]
-pub enum Word {
-    File,
-}
-
-/// A flag, an option with a value, the help and the version.
-pub static PACK: Declaration<'static, Flag, Value, Word> = declare! {
+/// A flag, an option with a value, the help and the version. The keys are characters.
+pub static PACK: Declaration<'static, char, char, char> = declare! {
     program: "pack",
     about: "Packs.",
     options: [
-        flag(Flag::Verbose, Names::Both('v', "verbose"), "tell more"),
-        value(Value::Output, Names::Both('o', "output"), "FILE", "write to this file"),
+        flag('v', Names::Both('v', "verbose"), "tell more"),
+        value('o', Names::Both('o', "output"), "FILE", "write to this file"),
         help(Names::Both('h', "help")),
         version(Names::Long("version"), "pack 1.0"),
     ],
-    positionals: [any_number(Word::File, "FILE")],
+    positionals: [any_number('f', "FILE")],
 };

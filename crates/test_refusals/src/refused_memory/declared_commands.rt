@@ -1,18 +1,18 @@
 //! Declared commands. If an allocation fails, `answer_request` returns an `AllocError`, and nothing
 //! of the line.
-use crate::refused_memory::{Flag, Outcome, Value, check_outcome, out_of_memory_in};
+use crate::refused_memory::{Outcome, check_outcome, out_of_memory_in, printed_outcome};
 use lexopt_commands::{Command, Commands, Step, declare_commands};
 use lexopt_options::{Declaration, Names, Options, Request, declare};
 use std::alloc::{AllocError, Global};
 use std::test::Fail;
 use test_helpers::parsers::words_of;
 
-static GENERAL: Declaration<'static, Flag, Value> = declare! {
+static GENERAL: Declaration<'static, char, char> = declare! {
     program: "pack",
     about: "Packs.",
     options: [
-        flag(Flag::Verbose, Names::Both('v', "verbose"), "tell more"),
-        value(Value::Output, Names::Both('o', "output"), "FILE", "write to this file"),
+        flag('v', Names::Both('v', "verbose"), "tell more"),
+        value('o', Names::Both('o', "output"), "FILE", "write to this file"),
         help(Names::Both('h', "help")),
         version(Names::Long("version"), "pack 1.0"),
     ],
@@ -26,17 +26,17 @@ static TASKS: &[Command<'static, u8>] = declare_commands![
 // How a call went that is expected to return the step with this text.
 fn step_outcome(
     alloc: Global,
-    step: &Result<Step<'_, u8, Flag, Value>, AllocError>,
+    step: &Result<Step<'_, u8, char, char>, AllocError>,
     wanted: &str,
 ) -> Result<Outcome, AllocError> {
-    let mut text = String::with_capacity(alloc, 400)?;
     match step {
-        Ok(Step::Command(key, path, call)) => write!(text, "{path} {key} {call:?}")?,
-        Ok(Step::Text(own)) => write!(text, "{own}")?,
-        Ok(Step::Refused(refused)) => write!(text, "{refused}")?,
-        Err(_) => return Ok(Outcome::OutOfMemory),
+        Ok(Step::Command(key, path, call)) => {
+            printed_outcome(alloc, &format_args!("{path} {key} {call:?}"), wanted)
+        }
+        Ok(Step::Text(text)) => printed_outcome(alloc, text, wanted),
+        Ok(Step::Refused(refused)) => printed_outcome(alloc, refused, wanted),
+        Err(_) => Ok(Outcome::OutOfMemory),
     }
-    Ok(Outcome::of(text.as_str() == wanted))
 }
 
 // Calls `answer_request` with this value of the variable, and this line.
@@ -55,7 +55,7 @@ static ROWS: [(Option<&[u8]>, &[u8], &str); 5] = [
     (
         None,
         b"-vo x help add -q",
-        "pack add 1 Call { general: [Flag(Verbose), Value(Output, \"x\")], \
+        "pack add 1 Call { general: [Flag('v'), Value('o', \"x\")], \
         request: Line([\"-q\", \"--help\"]) }",
     ),
     (

@@ -1,6 +1,7 @@
 //! Declared options. If an allocation fails, the call returns an `AllocError`, and nothing of the
 //! line.
-use crate::refused_memory::{Flag, Outcome, PACK, Value, Word, check_outcome, out_of_memory_in};
+use crate::refused_memory::{Outcome, PACK, check_outcome, out_of_memory_in, printed_outcome};
+use lexopt::OsString;
 use lexopt_options::{
     Answer, Combined, Declaration, Group, Leading, Names, Options, Request, declare, declare_group,
 };
@@ -9,41 +10,50 @@ use std::test::Fail;
 use test_helpers::parsers::words_of;
 
 // A group of options for `PACK`.
-static MORE: Group<'static, Flag, Value> = declare_group! {
-    options: [value(Value::User, Names::Long("user"), "NAME", "whose it is")],
+static MORE: Group<'static, char, char> = declare_group! {
+    options: [value('u', Names::Long("user"), "NAME", "whose it is")],
 };
 
 // How a call went that is expected to return an answer with this text: what was read, a text to
 // print, or a mistake.
 fn answer_outcome(
     alloc: Global,
-    answer: &Result<Answer<'_, Flag, Value, Word>, AllocError>,
+    answer: &Result<Answer<'_, char, char, char>, AllocError>,
     wanted: &str,
 ) -> Result<Outcome, AllocError> {
-    let mut text = String::with_capacity(alloc, 300)?;
     match answer {
-        Ok(Answer::Parsed(parsed)) => write!(text, "{parsed:?}")?,
-        Ok(Answer::Text(given)) => text.push_str(given)?,
-        Ok(Answer::Refused(refused)) => write!(text, "{refused}")?,
-        Err(_) => return Ok(Outcome::OutOfMemory),
+        Ok(Answer::Parsed(parsed)) => printed_outcome(alloc, &format_args!("{parsed:?}"), wanted),
+        Ok(Answer::Text(text)) => printed_outcome(alloc, text, wanted),
+        Ok(Answer::Refused(refused)) => printed_outcome(alloc, refused, wanted),
+        Err(_) => Ok(Outcome::OutOfMemory),
     }
-    Ok(Outcome::of(text.as_str() == wanted))
 }
 
-// Calls `answer` with this line; or, with a value of the variable by which a shell asks,
+// Calls `answer` with these words; or, with a value of the variable by which a shell asks,
 // `answer_request`.
+fn answer(
+    alloc: Global,
+    value: &[u8],
+    words: Vec<OsString>,
+) -> Result<Answer<'static, char, char, char>, AllocError> {
+    let options = Options::new(&PACK);
+    if value.is_empty() {
+        options.answer(alloc, words, 40)
+    } else {
+        options.answer_request(alloc, Request::new(alloc, Some(value), words), 40)
+    }
+}
+
 fn check_answer(alloc: Global, value: &[u8], line: &[u8], wanted: &str) -> Result<(), Fail> {
     let Ok(words) = words_of(alloc, line) else {
         return out_of_memory_in("the list");
     };
-    let options = Options::new(&PACK);
+    let outcome = answer_outcome(alloc, &answer(alloc, value, words), wanted)?;
     if value.is_empty() {
-        let outcome = answer_outcome(alloc, &options.answer(alloc, words, 40), wanted);
-        return check_outcome(outcome?, "answer");
+        check_outcome(outcome, "answer")
+    } else {
+        check_outcome(outcome, "answer_request")
     }
-    let request = Request::new(alloc, Some(value), words);
-    let outcome = answer_outcome(alloc, &options.answer_request(alloc, request, 40), wanted);
-    check_outcome(outcome?, "answer_request")
 }
 
 // A value of the variable, a line, and what is read or printed.
@@ -51,7 +61,7 @@ static ROWS: [(&[u8], &[u8], &str); 7] = [
     (
         b"",
         b"-vo=x --output y -- -f",
-        "[Flag(Verbose), Value(Output, \"x\"), Value(Output, \"y\"), Positional(File, \"-f\")]",
+        "[Flag('v'), Value('o', \"x\"), Value('o', \"y\"), Positional('f', \"-f\")]",
     ),
     (
         b"",
@@ -96,17 +106,17 @@ fn declared_lines(rt: HostRuntime) -> Result<(), Fail> {
 // How a call went that is expected to return leading options, and a tail, with this text.
 fn leading_outcome(
     alloc: Global,
-    leading: &Result<Leading<'_, Flag, Value, Word>, AllocError>,
+    leading: &Result<Leading<'_, char, char, char>, AllocError>,
     wanted: &str,
 ) -> Result<Outcome, AllocError> {
-    let mut text = String::with_capacity(alloc, 300)?;
     match leading {
-        Ok(Leading::Parsed(parsed, rest)) => write!(text, "{parsed:?} {rest:?}")?,
-        Ok(Leading::Asked(asked)) => write!(text, "{asked:?}")?,
-        Ok(Leading::Refused(refused)) => write!(text, "{refused}")?,
-        Err(_) => return Ok(Outcome::OutOfMemory),
+        Ok(Leading::Parsed(parsed, rest)) => {
+            printed_outcome(alloc, &format_args!("{parsed:?} {rest:?}"), wanted)
+        }
+        Ok(Leading::Asked(asked)) => printed_outcome(alloc, &format_args!("{asked:?}"), wanted),
+        Ok(Leading::Refused(refused)) => printed_outcome(alloc, refused, wanted),
+        Err(_) => Ok(Outcome::OutOfMemory),
     }
-    Ok(Outcome::of(text.as_str() == wanted))
 }
 
 #[test]
@@ -115,7 +125,7 @@ fn declared_leading(rt: HostRuntime) -> Result<(), Fail> {
     let Ok(words) = words_of(alloc, b"-v -o x add -q --") else {
         return out_of_memory_in("the list");
     };
-    let wanted = "[Flag(Verbose), Value(Output, \"x\")] [\"add\", \"-q\", \"--\"]";
+    let wanted = "[Flag('v'), Value('o', \"x\")] [\"add\", \"-q\", \"--\"]";
     let outcome = leading_outcome(
         alloc,
         &Options::new(&PACK).read_leading(alloc, words),

@@ -7,13 +7,21 @@ use std::test::Fail;
 use test_helpers::calls::{is_at_end, reads_long, reads_short, reads_word, takes};
 use test_helpers::parsers::parser_of;
 
-// Reads the option `out`, again if memory runs out, and then its value `x`.
-fn read_long_option(parser: &mut Parser) -> Result<Outcome, Error> {
-    let outcome = match reads_long(parser, "out") {
-        Ok(is_read) => Outcome::of(is_read),
-        Err(Error::OutOfMemory) => Outcome::OutOfMemory.only_if(reads_long(parser, "out")?),
+// How `next` went, which is expected to read the option `out`.
+fn long_outcome(parser: &mut Parser) -> Outcome {
+    match &reads_long(parser, "out") {
+        Ok(is_read) => Outcome::of(*is_read),
+        Err(Error::OutOfMemory) => Outcome::OutOfMemory,
         Err(_) => Outcome::Wrong,
-    };
+    }
+}
+
+// Reads that option, again if memory runs out, and then its value `x`.
+fn read_long_option(parser: &mut Parser) -> Result<Outcome, Error> {
+    let mut outcome = long_outcome(parser);
+    if let Outcome::OutOfMemory = outcome {
+        outcome = outcome.and_again(long_outcome(parser));
+    }
     Ok(outcome.only_if(takes(parser, b"x")?))
 }
 
@@ -50,7 +58,7 @@ fn error_of(parser: &mut Parser, call: Call) -> Option<Error> {
 
 // How this call goes.
 fn outcome_of(parser: &mut Parser, call: Call) -> Outcome {
-    match (error_of(parser, call), call) {
+    match (&error_of(parser, call), call) {
         (Some(Error::UnexpectedValue { option, value }), Call::Next | Call::RawArgs) => {
             Outcome::of(option.as_str() == "-a" && value.as_bytes() == b"b".as_slice())
         }

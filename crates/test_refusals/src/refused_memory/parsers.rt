@@ -2,7 +2,7 @@
 use crate::refused_memory::{Outcome, check_outcome, out_of_memory_in};
 use lexopt::os_string::arguments;
 use lexopt::{Error, OsString, Parser};
-use std::alloc::{AllocError, Global};
+use std::alloc::Global;
 use std::test::Fail;
 use test_helpers::calls::{has_words, reads_short};
 use test_helpers::environments::Arguments;
@@ -51,35 +51,32 @@ const GIVEN: [&[u8]; 6] = [
     b"--\xff=\xfe",
 ];
 
-// Asks `arguments` for these words, and again if memory runs out.
-fn take_arguments(alloc: Global, words: &[OsString]) -> Result<Outcome, AllocError> {
-    let environment = Arguments { words };
-    match arguments(&environment, alloc) {
-        Ok(found) => Ok(Outcome::of(found.as_slice() == words)),
-        Err(_) => {
-            let found = arguments(&environment, alloc)?;
-            Ok(Outcome::OutOfMemory.only_if(found.as_slice() == words))
-        }
+// How `arguments` went, which is expected to return these words.
+fn arguments_outcome(alloc: Global, words: &[OsString]) -> Outcome {
+    match &arguments(&Arguments { words }, alloc) {
+        Ok(found) => Outcome::of(found.as_slice() == words),
+        Err(_) => Outcome::OutOfMemory,
     }
 }
 
-// Makes a parser of these words by `from_env_os`, and again if memory runs out.
-fn make_parser(alloc: Global, words: &[OsString]) -> Result<Outcome, Error> {
-    let environment = Arguments { words };
-    let mut made = Parser::from_env_os(&environment, alloc);
-    let mut outcome = Outcome::Expected;
-    if matches!(made, Err(Error::OutOfMemory)) {
-        made = Parser::from_env_os(&environment, alloc);
-        outcome = Outcome::OutOfMemory;
-    }
+// How `from_env_os` went, which is expected to make a parser of these words.
+fn parser_outcome(alloc: Global, words: &[OsString]) -> Result<Outcome, Error> {
     let unread = words.get(1..).unwrap_or(&[]);
-    Ok(outcome.only_if(has_words(&mut made?, Some("tool\u{FFFD}"), unread)?))
+    match &mut Parser::from_env_os(&Arguments { words }, alloc) {
+        Ok(made) => Ok(Outcome::of(has_words(made, Some("tool\u{FFFD}"), unread)?)),
+        Err(Error::OutOfMemory) => Ok(Outcome::OutOfMemory),
+        Err(_) => Ok(Outcome::Wrong),
+    }
 }
 
-// All words of an environment are returned, or none if memory runs out.
+// All words of an environment are returned, or none if memory runs out. Each call is made twice.
 fn check_environment(alloc: Global, words: &[OsString]) -> Result<(), Fail> {
-    check_outcome(take_arguments(alloc, words)?, "arguments")?;
-    check_outcome(make_parser(alloc, words)?, "from_env_os")
+    let first = arguments_outcome(alloc, words);
+    let second = arguments_outcome(alloc, words);
+    check_outcome(first.and_again(second), "arguments")?;
+    let first = parser_outcome(alloc, words)?;
+    let second = parser_outcome(alloc, words)?;
+    check_outcome(first.and_again(second), "from_env_os")
 }
 
 #[test]

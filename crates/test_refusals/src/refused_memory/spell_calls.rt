@@ -15,32 +15,28 @@ const WORDS: [&[u8]; 16] = [
     b"1", b"2", b"3", b"--", b"-f",
 ];
 
-// Whether `spell` returned these words; or, if the items were reversed, whether the first option
-// after a positional that needs the separator is at fault.
-fn is_wanted(found: &Result<Vec<OsString>, SpellError>, reversed: bool) -> bool {
+// How `spell` went, which is expected to return these words; or, if the items were reversed, to
+// report the first option after a positional that needs the separator.
+fn spelling_outcome(found: &Result<Vec<OsString>, SpellError>, reversed: bool) -> Outcome {
     match found {
-        Ok(words) => !reversed && are_words(words, &WORDS),
+        Ok(words) => Outcome::of(!reversed && are_words(words, &WORDS)),
         Err(SpellError::AtFault { index, reason }) => {
-            reversed && *index == 1 && *reason == Reason::PastSeparator
+            Outcome::of(reversed && *index == 1 && *reason == Reason::PastSeparator)
         }
-        Err(SpellError::OutOfMemory) => false,
+        Err(SpellError::OutOfMemory) => Outcome::OutOfMemory,
     }
 }
 
-// Spells these items, and again if memory runs out.
+// Spells these items twice.
 fn check_spelling(
     alloc: Global,
     table: &Table,
     items: &[Item],
     reversed: bool,
 ) -> Result<(), Fail> {
-    let mut found = spell(alloc, items, true, table);
-    let mut outcome = Outcome::Expected;
-    if matches!(found, Err(SpellError::OutOfMemory)) {
-        found = spell(alloc, items, true, table);
-        outcome = Outcome::OutOfMemory;
-    }
-    check_outcome(outcome.only_if(is_wanted(&found, reversed)), "spell")
+    let first = spelling_outcome(&spell(alloc, items, true, table), reversed);
+    let second = spelling_outcome(&spell(alloc, items, true, table), reversed);
+    check_outcome(first.and_again(second), "spell")
 }
 
 #[test]

@@ -7,24 +7,15 @@ use std::str::FromStr;
 use std::test::Fail;
 
 // How a call went that is expected to return the word of these bytes.
-fn word_outcome(word: Result<OsString, AllocError>, bytes: &[u8]) -> Outcome {
+fn word_outcome(word: &Result<OsString, AllocError>, bytes: &[u8]) -> Outcome {
     match word {
         Ok(word) => Outcome::of(word.as_bytes() == bytes),
         Err(_) => Outcome::OutOfMemory,
     }
 }
 
-// How two such calls went.
-fn words_outcome(
-    first: Result<OsString, AllocError>,
-    second: Result<OsString, AllocError>,
-    bytes: &[u8],
-) -> Outcome {
-    word_outcome(first, bytes).and_again(word_outcome(second, bytes))
-}
-
 // How a call went that is expected to return the lossy text of `a` and the byte FF.
-fn text_outcome(found: Result<String, AllocError>) -> Outcome {
+fn text_outcome(found: &Result<String, AllocError>) -> Outcome {
     match found {
         Ok(found) => Outcome::of(found.as_str() == "a\u{fffd}"),
         Err(_) => Outcome::OutOfMemory,
@@ -35,24 +26,22 @@ fn text_outcome(found: Result<String, AllocError>) -> Outcome {
 #[test]
 fn copied_bytes(rt: HostRuntime) -> Result<(), Fail> {
     let alloc = rt.alloc();
-    let text = "\u{e9}";
-    let (first, second) = (
-        OsString::from_text(alloc, text),
-        OsString::from_text(alloc, text),
-    );
-    check_outcome(words_outcome(first, second, b"\xc3\xa9"), "from_text")?;
+    let first = word_outcome(&OsString::from_text(alloc, "\u{e9}"), b"\xc3\xa9");
+    let second = word_outcome(&OsString::from_text(alloc, "\u{e9}"), b"\xc3\xa9");
+    check_outcome(first.and_again(second), "from_text")?;
     let view = OsStr::from_bytes(b"a\xff");
-    let (first, second) = (view.to_os_string(alloc), view.to_os_string(alloc));
-    check_outcome(words_outcome(first, second, b"a\xff"), "to_os_string")?;
-    let first = text_outcome(view.to_string_lossy(alloc));
-    let second = text_outcome(view.to_string_lossy(alloc));
+    let first = word_outcome(&view.to_os_string(alloc), b"a\xff");
+    let second = word_outcome(&view.to_os_string(alloc), b"a\xff");
+    check_outcome(first.and_again(second), "to_os_string")?;
+    let first = text_outcome(&view.to_string_lossy(alloc));
+    let second = text_outcome(&view.to_string_lossy(alloc));
     check_outcome(first.and_again(second), "to_string_lossy")
 }
 
 // How a call went that is expected to return the same argument.
-fn copy_outcome(copy: Result<Arg<'_>, AllocError>, argument: &Arg<'_>) -> Outcome {
+fn copy_outcome(copy: &Result<Arg<'_>, AllocError>, argument: &Arg<'_>) -> Outcome {
     match copy {
-        Ok(copy) => Outcome::of(copy == *argument),
+        Ok(copy) => Outcome::of(copy == argument),
         Err(_) => Outcome::OutOfMemory,
     }
 }
@@ -62,15 +51,17 @@ fn copied_words(rt: HostRuntime) -> Result<(), Fail> {
     let Ok(word) = OsString::from_bytes(rt.alloc(), b"a\xff") else {
         return out_of_memory_in("from_bytes");
     };
-    check_outcome(words_outcome(word.clone(), word.clone(), b"a\xff"), "clone")?;
+    let first = word_outcome(&word.clone(), b"a\xff");
+    let second = word_outcome(&word.clone(), b"a\xff");
+    check_outcome(first.and_again(second), "clone")?;
     let argument = Arg::Value(word);
-    let first = copy_outcome(argument.clone(), &argument);
-    let second = copy_outcome(argument.clone(), &argument);
+    let first = copy_outcome(&argument.clone(), &argument);
+    let second = copy_outcome(&argument.clone(), &argument);
     check_outcome(first.and_again(second), "clone")
 }
 
 // How a call went that is expected to report the option `--name` as unexpected.
-fn unexpected_option(error: Error) -> Outcome {
+fn unexpected_option(error: &Error) -> Outcome {
     match error {
         Error::UnexpectedOption(option) => Outcome::of(option.as_str() == "--name"),
         Error::OutOfMemory => Outcome::OutOfMemory,
@@ -80,36 +71,34 @@ fn unexpected_option(error: Error) -> Outcome {
 
 #[test]
 fn unexpected_options(rt: HostRuntime) -> Result<(), Fail> {
-    let first = unexpected_option(Arg::Long("name").unexpected(rt.alloc()));
-    let second = unexpected_option(Arg::Long("name").unexpected(rt.alloc()));
+    let first = unexpected_option(&Arg::Long("name").unexpected(rt.alloc()));
+    let second = unexpected_option(&Arg::Long("name").unexpected(rt.alloc()));
     check_outcome(first.and_again(second), "unexpected")
 }
 
 // How a call went that is expected to refuse this word, which is not a number or not UTF-8.
-fn refused_word(error: Option<Error>, word: &OsString) -> Outcome {
-    match error {
-        Some(Error::ParsingFailed { value, .. }) => {
+fn refused_word(found: &Result<u8, Error>, word: &OsString) -> Outcome {
+    match found {
+        Err(Error::ParsingFailed { value, .. }) => {
             Outcome::of(word.to_str() == Some(value.as_str()))
         }
-        Some(Error::NonUnicodeValue(copy)) => {
-            Outcome::of(word.to_str().is_none() && copy == *word)
-        }
-        Some(Error::OutOfMemory) => Outcome::OutOfMemory,
+        Err(Error::NonUnicodeValue(copy)) => Outcome::of(word.to_str().is_none() && copy == word),
+        Err(Error::OutOfMemory) => Outcome::OutOfMemory,
         _ => Outcome::Wrong,
     }
 }
 
 // Calls `parse` twice on a word that it refuses.
 fn parse_twice(word: &OsString) -> Outcome {
-    let first = refused_word(word.parse::<u8>().err(), word);
-    let second = refused_word(word.parse::<u8>().err(), word);
+    let first = refused_word(&word.parse::<u8>(), word);
+    let second = refused_word(&word.parse::<u8>(), word);
     first.and_again(second)
 }
 
 // Calls `parse_with` twice on a word that it refuses.
 fn parse_with_twice(word: &OsString) -> Outcome {
-    let first = refused_word(word.parse_with(u8::from_str).err(), word);
-    let second = refused_word(word.parse_with(u8::from_str).err(), word);
+    let first = refused_word(&word.parse_with(u8::from_str), word);
+    let second = refused_word(&word.parse_with(u8::from_str), word);
     first.and_again(second)
 }
 
