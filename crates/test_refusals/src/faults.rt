@@ -94,7 +94,7 @@ fn runs_to<R: Read>(
 }
 
 // A reader of the stored script that fails at this read.
-fn script_with_a_failing_read(fails_at: usize) -> Slow<'static> {
+fn slow_script(fails_at: usize) -> Slow<'static> {
     Slow {
         left: SCRIPT,
         reads: 0,
@@ -104,25 +104,11 @@ fn script_with_a_failing_read(fails_at: usize) -> Slow<'static> {
 
 #[test]
 fn reads_that_fail(rt: HostRuntime) {
+    let failed = Err(RunError::ReadFailed);
     for fails_at in 1..SCRIPT.len() + 2 {
-        let wanted = Err(RunError::ReadFailed);
-        assert!(rt;
-            runs_to(
-                rt.alloc(),
-                &mut script_with_a_failing_read(fails_at),
-                wanted,
-                b""
-            )
-        );
+        assert!(rt; runs_to(rt.alloc(), &mut slow_script(fails_at), failed, b""));
     }
-    assert!(rt;
-        runs_to(
-            rt.alloc(),
-            &mut script_with_a_failing_read(0),
-            Ok(()),
-            WRITTEN
-        )
-    );
+    assert!(rt; runs_to(rt.alloc(), &mut slow_script(0), Ok(()), WRITTEN));
 }
 
 // Whether the stored script has this result if its writer takes this many bytes, and the writer
