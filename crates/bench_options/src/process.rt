@@ -5,6 +5,7 @@ use anyhow::{Result, bail};
 use lexopt_base::{Arg, Error, Parser};
 use lexopt_options::{Answer, Options, Parsed};
 use std::alloc::AllocError;
+use std::env::Env;
 use std::fmt;
 
 // Room for the longest word that Linux allows.
