@@ -17,6 +17,8 @@ mod ends;
 #[cfg(test)]
 mod errors;
 #[cfg(test)]
+mod many_options;
+#[cfg(test)]
 mod names;
 #[cfg(test)]
 mod replays;

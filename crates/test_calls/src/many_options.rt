@@ -1,14 +1,11 @@
 //! Forty options read over the parser by keys: a table has the names of each option, two functions
 //! set what the keys mean, and the loop has four arms. So the time to prove it grows with the
 //! options, and no faster.
-#![tactic(auto)]
-
-use lexopt_base::prelude::Value;
-use lexopt_base::{Arg, Error, OsString, Parser};
+use lexopt::prelude::Value;
+use lexopt::{Arg, Error, OsString, Parser};
 use std::alloc::Global;
-use std::env::Env;
-use std::io;
-use std::process::ExitCode;
+use test_helpers::items::are_words;
+use test_helpers::parsers::parser_of;
 
 #[derive(Clone, Copy)]
 enum Flag {
@@ -231,22 +228,34 @@ fn read_line(
     Ok(())
 }
 
-fn read_settings(rt: &(impl Env + AllocGlobal)) -> Result<(Settings, Vec<OsString>), Error> {
-    let alloc = rt.alloc();
-    let mut parser = Parser::from_env_os(rt, alloc)?;
-    let mut settings = Settings::default();
-    let mut files = Vec::new(alloc);
-    read_line(alloc, &mut parser, &mut settings, &mut files)?;
-    Ok((settings, files))
+// Whether this is a word with these bytes.
+fn is_word(word: &Option<OsString>, bytes: &[u8]) -> bool {
+    match word {
+        Some(word) => word.as_bytes() == bytes,
+        None => false,
+    }
 }
 
-fn main(rt: HostRuntime) -> io::Result<ExitCode> {
-    match read_settings(&rt) {
-        Ok((settings, files)) => {
-            println!(rt; "{:?} {:?}", settings.after_context, settings.max_count)?;
-            println!(rt; "{} {:?}", settings.quiet, files)?;
-            Ok(ExitCode::SUCCESS)
-        }
-        Err(error) => eprintln!(rt; "test_loop: {error}").map(|()| ExitCode::from(2)),
-    }
+// Whether a line gives these settings and files.
+fn is_read(alloc: Global) -> Result<bool, Error> {
+    let line: [&[u8]; 5] = [b"-ia3", b"--max-count=5", b"-q", b"x", b"y"];
+    let mut settings = Settings::default();
+    let mut files = Vec::new(alloc);
+    read_line(
+        alloc,
+        &mut parser_of(alloc, &line)?,
+        &mut settings,
+        &mut files,
+    )?;
+    Ok(
+        settings.quiet
+            && is_word(&settings.after_context, b"3")
+            && is_word(&settings.max_count, b"5")
+            && are_words(&files, &[b"x", b"y"]),
+    )
+}
+
+#[test]
+fn forty_options(rt: HostRuntime) {
+    assert!(rt; is_read(rt.alloc()).expect(&rt, "success"));
 }
