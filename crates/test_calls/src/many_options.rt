@@ -4,7 +4,6 @@
 use lexopt::prelude::Value;
 use lexopt::{Arg, Error, OsString, Parser};
 use std::alloc::Global;
-use test_helpers::items::are_words;
 use test_helpers::parsers::parser_of;
 
 #[derive(Clone, Copy)]
@@ -228,34 +227,18 @@ fn read_line(
     Ok(())
 }
 
-// Whether this is a word with these bytes.
-fn is_word(word: &Option<OsString>, bytes: &[u8]) -> bool {
-    match word {
-        Some(word) => word.as_bytes() == bytes,
-        None => false,
-    }
-}
-
-// Whether a line gives these settings and files.
-fn is_read(alloc: Global) -> Result<bool, Error> {
-    let line: [&[u8]; 5] = [b"-ia3", b"--max-count=5", b"-q", b"x", b"y"];
-    let mut settings = Settings::default();
-    let mut files = Vec::new(alloc);
-    read_line(
-        alloc,
-        &mut parser_of(alloc, &line)?,
-        &mut settings,
-        &mut files,
-    )?;
-    Ok(
-        settings.quiet
-            && is_word(&settings.after_context, b"3")
-            && is_word(&settings.max_count, b"5")
-            && are_words(&files, &[b"x", b"y"]),
-    )
+// Whether a line means these settings and files, as `Debug` writes them.
+fn is_read(alloc: Global, wanted: &str) -> Result<bool, Error> {
+    let mut parser = parser_of(alloc, &[b"-ia3", b"--max-count=5", b"-q", b"x y"])?;
+    let (mut settings, mut files) = (Settings::default(), Vec::new(alloc));
+    read_line(alloc, &mut parser, &mut settings, &mut files)?;
+    let (after, count) = (&settings.after_context, &settings.max_count);
+    let text = format!(in alloc; "{after:?} {count:?} {} {files:?}", settings.quiet)?;
+    Ok(text.as_str() == wanted)
 }
 
 #[test]
 fn forty_options(rt: HostRuntime) {
-    assert!(rt; is_read(rt.alloc()).expect(&rt, "success"));
+    let wanted = "Some(\"3\") Some(\"5\") true [\"x y\"]";
+    assert!(rt; is_read(rt.alloc(), wanted).expect(&rt, "success"));
 }
