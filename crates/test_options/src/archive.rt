@@ -40,11 +40,11 @@ pub type Archive<'a> = Declaration<'a, Flag, Value, Word, Maybe, Values>;
 
 pub type ArchiveOptions<'a> = Options<'a, Flag, Value, Word, Maybe, Values>;
 
-pub type ArchiveAnswer<'a> = Answer<'a, Flag, Value, Word, Maybe, Values>;
+pub type ArchiveAnswer<'a> = Result<Answer<'a, Flag, Value, Word, Maybe, Values>, AllocError>;
 
-pub type ArchiveLeading<'a> = Leading<'a, Flag, Value, Word, Maybe, Values>;
+pub type ArchiveLeading<'a> = Result<Leading<'a, Flag, Value, Word, Maybe, Values>, AllocError>;
 
-pub type ArchiveLine<'a> = Line<'a, Flag, Value, Word, Maybe, Values>;
+pub type ArchiveLine<'a> = Result<Line<'a, Flag, Value, Word, Maybe, Values>, AllocError>;
 
 /// A program with one option of each kind, the option for the help, and any number of files.
 pub static ARCHIVE: Archive<'static> = declare! {
@@ -92,13 +92,11 @@ pub fn archive<'a>(
 }
 
 /// What was read, as `Debug` writes it; a text that is printed; or a refusal.
-pub fn text_of_answer(
-    alloc: Global,
-    answer: Result<ArchiveAnswer<'_>, AllocError>,
-) -> Result<String, AllocError> {
-    match answer? {
-        Answer::Parsed(parsed) => format!(in alloc; "{parsed:?}"),
-        Answer::Text(text) => Ok(text),
-        Answer::Refused(refused) => refused.to_string(alloc),
+pub fn text_of_answer(alloc: Global, answer: &ArchiveAnswer<'_>) -> Result<String, AllocError> {
+    match answer {
+        Ok(Answer::Parsed(parsed)) => format!(in alloc; "{parsed:?}"),
+        Ok(Answer::Text(text)) => text.to_string(alloc),
+        Ok(Answer::Refused(refused)) => refused.to_string(alloc),
+        Err(_) => Err(AllocError),
     }
 }

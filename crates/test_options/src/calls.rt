@@ -79,31 +79,23 @@ static ROWS: [(Call, &[u8], &str); 11] = [
 // refusal.
 fn text_of_line(alloc: Global, line: &ArchiveLine<'_>) -> Result<String, AllocError> {
     match line {
-        Line::Parsed(parsed) => format!(in alloc; "{parsed:?}"),
-        Line::Asked(asked) => format!(in alloc; "{asked:?}"),
-        Line::Refused(refused) => format!(in alloc; "{:?}, then {refused}", refused.before),
+        Ok(Line::Parsed(parsed)) => format!(in alloc; "{parsed:?}"),
+        Ok(Line::Asked(asked)) => format!(in alloc; "{asked:?}"),
+        Ok(Line::Refused(refused)) => format!(in alloc; "{:?}, then {refused}", refused.before),
+        Err(_) => Err(AllocError),
     }
 }
 
 // The same for leading options, with the words after them.
 fn text_of_leading(alloc: Global, leading: &ArchiveLeading<'_>) -> Result<String, AllocError> {
     match leading {
-        Leading::Parsed(parsed, rest) => format!(in alloc; "{parsed:?}, then {rest:?}"),
-        Leading::Asked(asked) => format!(in alloc; "{asked:?}"),
-        Leading::Refused(refused) => {
+        Ok(Leading::Parsed(parsed, rest)) => format!(in alloc; "{parsed:?}, then {rest:?}"),
+        Ok(Leading::Asked(asked)) => format!(in alloc; "{asked:?}"),
+        Ok(Leading::Refused(refused)) => {
             format!(in alloc; "{:?}, then {}", refused.before, refused.mistake)
         }
+        Err(_) => Err(AllocError),
     }
-}
-
-// What `read` returns for these words, as a text.
-fn text_of_read(alloc: Global, words: Vec<OsString>) -> Result<String, AllocError> {
-    text_of_line(alloc, &archive_of_files().read(alloc, words)?)
-}
-
-// The same for `read_leading`.
-fn text_of_read_leading(alloc: Global, words: Vec<OsString>) -> Result<String, AllocError> {
-    text_of_leading(alloc, &archive_of_files().read_leading(alloc, words)?)
 }
 
 // What the call returns for these words, as a text.
@@ -111,12 +103,12 @@ fn text_of(alloc: Global, call: Call, line: &[u8]) -> Result<String, AllocError>
     let options = archive_of_files();
     let words = words_of(alloc, line)?;
     match call {
-        Read => text_of_read(alloc, words),
-        ReadLeading => text_of_read_leading(alloc, words),
-        Answer => text_of_answer(alloc, options.answer(alloc, words, 40)),
+        Read => text_of_line(alloc, &options.read(alloc, words)),
+        ReadLeading => text_of_leading(alloc, &options.read_leading(alloc, words)),
+        Answer => text_of_answer(alloc, &options.answer(alloc, words, 40)),
         Complete => {
             let request = Request::new(alloc, Some(b"bash_complete"), words);
-            text_of_answer(alloc, options.answer_request(alloc, request, 40))
+            text_of_answer(alloc, &options.answer_request(alloc, request, 40))
         }
     }
 }
@@ -136,11 +128,7 @@ fn is_completed(alloc: Global) -> Result<bool, AllocError> {
     let found = options.complete(alloc, words_of(alloc, b"a")?, &typed)?;
     let text = options.completion_text(alloc, words_of(alloc, b"a")?, &typed)?;
     Ok(
-        found.spellings.len() == 1
-            && found
-                .spellings
-                .iter()
-                .all(|own| own.text.as_str() == "--verbose")
+        matches!(found.spellings.as_slice(), [own] if own.text.as_str() == "--verbose")
             && text.as_str() == "--verbose\ttell more\n",
     )
 }
@@ -171,10 +159,8 @@ fn texts(rt: HostRuntime) {
 #[test]
 fn what_was_given(rt: HostRuntime) {
     let options = archive_of_files();
-    assert_eq!(rt; options.program(), ARCHIVE.program);
-    assert_eq!(rt; options.about(), ARCHIVE.about);
-    assert_eq!(rt; options.epilogue().len(), 0);
-    assert!(rt; options.has_short_equals());
+    assert!(rt; options.program() == ARCHIVE.program && options.about() == ARCHIVE.about);
+    assert!(rt; options.epilogue().is_empty() && options.has_short_equals());
     assert!(rt; options.options().len() == 5 && options.positionals().len() == 1);
 }
 

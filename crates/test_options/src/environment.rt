@@ -42,7 +42,7 @@ fn text_of<'v>(
         name,
         value,
     };
-    text_of_answer(alloc, archive_of_files().from_env(&(environment, alloc)))
+    text_of_answer(alloc, &archive_of_files().from_env(&(environment, alloc)))
 }
 
 #[test]

@@ -58,49 +58,51 @@ pub fn list_of(words: Words<'static>) -> Option<&'static [&'static str]> {
     }
 }
 
-// The mistake that this positional does not accept a word, if it does not.
-fn unlisted_word(
+/// Adds the words of a list to the mistake that a value is not one of them.
+pub fn write_list(alloc: Global, text: &mut String, list: &[&str]) -> Result<(), AllocError> {
+    write!(text, ": one of {}", list.join(alloc, ", ")?)
+}
+
+// Writes the mistake that this positional does not accept a word, if it does not.
+fn write_unlisted_word(
     alloc: Global,
+    text: &mut String,
     plan: &'static Plan,
     place: Place,
     word: &str,
-) -> Result<Option<String>, AllocError> {
+) -> Result<(), AllocError> {
     for own in plan.positionals {
         if let (true, Some(list)) = (own.key == place, list_of(own.words)) {
             if !list.contains(&word) {
-                let placeholder = own.placeholder;
-                let list = list.join(alloc, ", ")?;
-                return Ok(Some(format!(in alloc;
-                    "invalid argument \"{word}\" for {placeholder}: one of {list}"
-                )?));
+                write!(text, "invalid argument \"{word}\" for {}", own.placeholder)?;
+                return write_list(alloc, text, list);
             }
         }
     }
-    Ok(None)
+    Ok(())
 }
 
-// The mistake of the first word that its positional does not accept, if there is one.
-fn first_unlisted_word(
+// Writes the mistake of the first word that its positional does not accept, if there is one.
+fn write_unlisted_words(
     alloc: Global,
+    text: &mut String,
     plan: &'static Plan,
     items: &[Item<'_>],
-) -> Result<Option<String>, AllocError> {
+) -> Result<(), AllocError> {
     let places = places_of(alloc, plan, count_of(items))?;
     let mut words = 0usize;
     for item in items {
-        if let (Item::Word(word), Some(place)) = (item, places.get(words)) {
-            if let Some(mistake) = unlisted_word(alloc, plan, *place, word)? {
-                return Ok(Some(mistake));
-            }
+        if let (true, Item::Word(word), Some(place)) = (text.is_empty(), item, places.get(words)) {
+            write_unlisted_word(alloc, text, plan, *place, word)?;
             words = words.saturating_add(1);
         }
     }
-    Ok(None)
+    Ok(())
 }
 
-// Whether the word after `count` others can belong to the positional with this key, with or without
-// more words after it.
-fn can_own(alloc: Global, plan: &Plan, count: usize, key: Place) -> Result<bool, AllocError> {
+/// Whether the word after `count` others can belong to the positional of this key, with or without
+/// more words after it.
+pub fn can_own(alloc: Global, plan: &Plan, count: usize, key: Place) -> Result<bool, AllocError> {
     for more in 1..7usize {
         let whole = count.saturating_add(more);
         let places = places_of(alloc, plan, whole)?;
@@ -111,41 +113,21 @@ fn can_own(alloc: Global, plan: &Plan, count: usize, key: Place) -> Result<bool,
     Ok(false)
 }
 
-/// The places in the declaration of the positionals to which the word after `count` others can
-/// belong; and the words in their lists.
-pub fn owners_after(
+/// Writes the mistake at the end of a line, if there is one.
+pub fn write_missing(
     alloc: Global,
-    plan: &'static Plan,
-    count: usize,
-) -> Result<(Vec<usize>, Vec<&'static str>), AllocError> {
-    let mut owners = Vec::new(alloc);
-    let mut words = Vec::new(alloc);
-    for (place, own) in plan.positionals.iter().enumerate() {
-        if can_own(alloc, plan, count, own.key)? {
-            owners.push(place)?;
-            words.extend_from_slice(list_of(own.words).unwrap_or(&[]))?;
-        }
-    }
-    Ok((owners, words))
-}
-
-/// The mistake at the end of a line, if there is one.
-pub fn missing(
-    alloc: Global,
+    text: &mut String,
     plan: &'static Plan,
     items: &[Item<'_>],
-) -> Result<Option<String>, AllocError> {
+) -> Result<(), AllocError> {
     if let Some(placeholder) = missing_argument(plan, count_of(items)) {
-        return Ok(Some(format!(in alloc; "missing argument {placeholder}")?));
+        return write!(text, "missing argument {placeholder}");
     }
-    if let Some(mistake) = first_unlisted_word(alloc, plan, items)? {
-        return Ok(Some(mistake));
+    write_unlisted_words(alloc, text, plan, items)?;
+    if let (true, Some(names)) = (text.is_empty(), missing_option(plan, items)) {
+        write!(text, "missing option '{}'", name_of(names))?;
     }
-    let Some(names) = missing_option(plan, items) else {
-        return Ok(None);
-    };
-    let option = name_of(names);
-    Ok(Some(format!(in alloc; "missing option '{option}'")?))
+    Ok(())
 }
 
 /// The request of the first item that is one, if there is one.

@@ -1,6 +1,6 @@
 //! Lines, read by the library and by the plain reader.
 use crate::brute::ends::{asked, count_of, places_of};
-use crate::brute::plain::{Item, Key, Place, Plan, Reading, read};
+use crate::brute::plain::{Item, Key, Place, Plan, Reader, read};
 use crate::brute::plans::{WORDS, plans};
 use crate::brute::words_of;
 use lexopt_options::{Declared, Kind, Line, Options, OsString, Parsed};
@@ -57,40 +57,35 @@ fn is_item(plan: &Plan, item: &Item<'_>, place: Option<Place>, parsed: &KeyParse
 }
 
 // Whether these items were read, with the keys of the positionals.
-fn are_items(
-    alloc: Global,
-    plan: &Plan,
-    items: &[Item<'_>],
-    parsed: &[KeyParsed],
-) -> Result<bool, AllocError> {
-    let places = places_of(alloc, plan, count_of(items))?;
+fn are_items(plan: &Plan, items: &[Item<'_>], places: &[Place], parsed: &[KeyParsed]) -> bool {
     let mut words = 0usize;
     for (item, own) in items.iter().zip(parsed) {
         if !is_item(plan, item, places.get(words).copied(), own) {
-            return Ok(false);
+            return false;
         }
         if let Item::Word(_) = item {
             words = words.saturating_add(1);
         }
     }
-    Ok(items.len() == parsed.len())
+    items.len() == parsed.len()
 }
 
 // Whether the library and the plain reader agree on a line.
 fn is_line(
     alloc: Global,
     plan: &Plan,
-    reading: &Reading<'_>,
+    reading: &Reader<'_>,
+    places: &[Place],
     line: &KeyLine,
 ) -> Result<bool, AllocError> {
-    let mistake = reading.mistake.as_ref().or(reading.missing.as_ref());
-    match (asked(plan, &reading.items), mistake, line) {
+    let items = &reading.items;
+    match (asked(plan, items), reading.mistake.is_empty(), line) {
         (Some(wanted), _, Line::Asked(found)) => Ok(wanted == *found),
-        (None, None, Line::Parsed(parsed)) => are_items(alloc, plan, &reading.items, parsed),
-        (None, Some(mistake), Line::Refused(refused)) => {
+        (None, true, Line::Parsed(parsed)) => Ok(are_items(plan, items, places, parsed)),
+        (None, false, Line::Refused(refused)) => {
             Ok(
-                refused.mistake.to_string(alloc)? == *mistake
-                    && are_items(alloc, plan, &reading.items, &refused.before)?,
+                refused.mistake.to_string(alloc)? == reading.mistake
+                    && are_items(plan, items, places, &refused.before),
             )
         }
         _ => Ok(false),
@@ -104,13 +99,19 @@ fn agree(
     options: &KeyOptions,
     words: &[&'static str],
 ) -> Result<bool, AllocError> {
-    let reading = read(alloc, plan, words)?;
-    let line = options.read(alloc, words_of(alloc, words)?)?;
-    is_line(alloc, plan, &reading, &line)
+    let reading = read(alloc, plan, words, true)?;
+    let places = places_of(alloc, plan, count_of(&reading.items))?;
+    is_line(
+        alloc,
+        plan,
+        &reading,
+        &places,
+        &options.read(alloc, words_of(alloc, words)?)?,
+    )
 }
 
 // How many lines agree under this declaration, up to the first that does not.
-fn lines_that_agree(alloc: Global, plan: &'static Plan) -> usize {
+fn count_lines(alloc: Global, plan: &'static Plan) -> usize {
     let mut lines = 0usize;
     if let Ok(options) = Options::try_new(plan) {
         for number in 0..numbers_of(WORDS.len()) {
@@ -129,11 +130,6 @@ fn lines_that_agree(alloc: Global, plan: &'static Plan) -> usize {
 #[test]
 fn lines(rt: HostRuntime) {
     for plan in plans() {
-        assert_eq!(rt;
-            lines_that_agree(rt.alloc(), plan),
-            2_380,
-            "{}",
-            plan.program
-        );
+        assert_eq!(rt; count_lines(rt.alloc(), plan), 2_380, "{}", plan.program);
     }
 }

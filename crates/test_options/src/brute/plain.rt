@@ -1,7 +1,7 @@
 //! A plain reader of declared options, written from the rules alone. It uses the declaration, and
 //! calls nothing of the library. It reads words of ASCII, without `=` in a cluster and without
 //! characters that messages escape, and it gives no hints.
-use crate::brute::ends::{count_of, list_of, may_repeat, missing, name_of};
+use crate::brute::ends::{count_of, list_of, may_repeat, name_of, write_list, write_missing};
 use lexopt_options::{Declaration, Kind, Names};
 use std::alloc::{AllocError, Global};
 use std::fmt;
@@ -32,17 +32,6 @@ pub enum Item<'w> {
     /// The option at this place of the declaration, and its values.
     Option(usize, Vec<&'w str>),
     Word(&'w str),
-}
-
-/// The reading of a line.
-#[derive(Drop)]
-pub struct Reading<'w> {
-    /// The items, up to the mistake if there is one.
-    pub items: Vec<Item<'w>>,
-    /// The mistake at which the reading stopped, if there is one.
-    pub mistake: Option<String>,
-    /// The mistake at the end of the line, if there is one.
-    pub missing: Option<String>,
 }
 
 /// An option as it was typed.
@@ -79,15 +68,20 @@ pub enum Next {
     Nothing,
 }
 
+/// A reader of a line.
 #[derive(Drop)]
-struct Reader<'w> {
+pub struct Reader<'w> {
     alloc: Global,
     plan: &'static Plan,
     // Whether values that are not in a list are refused.
     lists: bool,
-    items: Vec<Item<'w>>,
+    /// The items, up to the mistake if there is one.
+    pub items: Vec<Item<'w>>,
     pending: Pending<'w>,
     after_separator: bool,
+    /// The mistake at which the reading stopped, or that at the end of the line. It is empty if
+    /// there is none.
+    pub mistake: String,
 }
 
 // Whether an option has this name.
@@ -137,20 +131,25 @@ fn first_unlisted<'w>(list: &[&str], values: &[&'w str]) -> Option<&'w str> {
     values.iter().find(|value| !list.contains(value)).copied()
 }
 
-// The mistake that the option of an item does not accept one of its values, if it does not.
-fn unlisted(alloc: Global, plan: &Plan, item: &Item<'_>) -> Result<Option<String>, AllocError> {
+// Writes the mistake that the option of an item does not accept one of its values, if it does not.
+fn write_unlisted(
+    alloc: Global,
+    text: &mut String,
+    plan: &Plan,
+    item: &Item<'_>,
+) -> Result<(), AllocError> {
     let Item::Option(place, values) = item else {
-        return Ok(None);
+        return Ok(());
     };
     let (Some(option), Some(list)) = (plan.options.get(*place), list_at(plan, *place)) else {
-        return Ok(None);
+        return Ok(());
     };
     let Some(value) = first_unlisted(list, values) else {
-        return Ok(None);
+        return Ok(());
     };
     let name = name_of(option.names);
-    let list = list.join(alloc, ", ")?;
-    Ok(Some(format!(in alloc; "invalid value \"{value}\" for '{name}': one of {list}")?))
+    write!(text, "invalid value \"{value}\" for '{name}'")?;
+    write_list(alloc, text, list)
 }
 
 // What an option of this kind leaves pending, with or without a value in its word.
@@ -186,34 +185,28 @@ impl<'w> Reader<'w> {
         }
     }
 
-    // The mistake that the last item has a value that its option does not accept, if it does. The
-    // item is then removed.
-    fn refuse_value(&mut self) -> Result<Option<String>, AllocError> {
-        let mistake = match self.items.last() {
-            Some(item) if self.lists => unlisted(self.alloc, self.plan, item)?,
-            _ => None,
-        };
-        if mistake.is_some() {
+    // Removes the last item if it has a value that its option does not accept.
+    fn refuse_value(&mut self) -> Result<(), AllocError> {
+        if let (true, Some(item)) = (self.lists, self.items.last()) {
+            write_unlisted(self.alloc, &mut self.mistake, self.plan, item)?;
+        }
+        if !self.mistake.is_empty() {
             let _refused = self.items.pop();
         }
-        Ok(mistake)
+        Ok(())
     }
 
-    // Ends a pending option. Returns the mistake if it has no value, or a value that it does not
-    // accept.
-    fn close(&mut self) -> Result<Option<String>, AllocError> {
-        let (placeholder, typed) = match self.pending {
-            Pending::Nothing => return Ok(None),
-            Pending::Value(placeholder, typed) | Pending::Values(placeholder, typed) => {
-                (placeholder, typed)
-            }
+    // Ends a pending option. It is a mistake if it has no value, or one that it does not accept.
+    fn close(&mut self) -> Result<(), AllocError> {
+        let (Pending::Value(name, typed) | Pending::Values(name, typed)) = self.pending else {
+            return Ok(());
         };
         self.pending = Pending::Nothing;
         if self.has_values() {
             return self.refuse_value();
         }
         let _without_value = self.items.pop();
-        Ok(Some(format!(in self.alloc; "missing argument {placeholder} for option '{typed}'")?))
+        write!(self.mistake, "missing argument {name} for option '{typed}'")
     }
 
     // Reads an option without values, and the value that follows it in its word.
@@ -222,32 +215,31 @@ impl<'w> Reader<'w> {
         place: usize,
         typed: Typed<'w>,
         value: Option<&'w str>,
-    ) -> Result<(Option<String>, bool), AllocError> {
+    ) -> Result<bool, AllocError> {
         if let (Typed::Long(_), Some(value)) = (typed, value) {
-            let mistake = format!(in self.alloc;
+            write!(
+                self.mistake,
                 "unexpected argument for option '{typed}': \"{value}\""
             )?;
-            return Ok((Some(mistake), true));
+            return Ok(true);
         }
         self.add(place)?;
-        Ok((None, value.is_none()))
+        Ok(value.is_none())
     }
 
-    // Reads an option and the value that follows it in its word. Returns the mistake, if there is
-    // one, and whether the whole word is read.
+    // Reads an option and the value that follows it in its word. Returns whether the whole word is
+    // read, or there is a mistake.
     fn read_option(
         &mut self,
         typed: Typed<'w>,
         value: Option<&'w str>,
-    ) -> Result<(Option<String>, bool), AllocError> {
+    ) -> Result<bool, AllocError> {
         let Some(place) = place_of(self.plan, typed) else {
-            return Ok((
-                Some(format!(in self.alloc; "invalid option '{typed}'")?),
-                true,
-            ));
+            write!(self.mistake, "invalid option '{typed}'")?;
+            return Ok(true);
         };
         let Some(option) = self.plan.options.get(place) else {
-            return Ok((None, true));
+            return Ok(true);
         };
         if let Kind::Flag(_) | Kind::Help | Kind::Version(_) = option.kind {
             return self.read_flag(place, typed, value);
@@ -257,46 +249,45 @@ impl<'w> Reader<'w> {
         if let Some(value) = value {
             self.add_value(value)?;
             if let Pending::Nothing = self.pending {
-                return Ok((self.refuse_value()?, true));
+                self.refuse_value()?;
             }
         }
-        Ok((None, true))
+        Ok(true)
     }
 
     // Reads a cluster: what follows the only leading dash of a word.
-    fn read_cluster(&mut self, cluster: &'w str) -> Result<Option<String>, AllocError> {
+    fn read_cluster(&mut self, cluster: &'w str) -> Result<(), AllocError> {
         let mut rest = cluster.chars();
         while let Some(character) = rest.next() {
             let value = Some(rest.as_str()).filter(|value| !value.is_empty());
-            let (mistake, done) = self.read_option(Typed::Short(character), value)?;
-            if done {
-                return Ok(mistake);
+            if self.read_option(Typed::Short(character), value)? {
+                return Ok(());
             }
         }
-        Ok(None)
+        Ok(())
     }
 
     // Reads a long option: what follows the two leading dashes of a word.
-    fn read_long(&mut self, long: &'w str) -> Result<Option<String>, AllocError> {
+    fn read_long(&mut self, long: &'w str) -> Result<(), AllocError> {
         let (name, value) = match long.split_once('=') {
             Some((name, value)) => (name, Some(value)),
             None => (long, None),
         };
-        Ok(self.read_option(Typed::Long(name), value)?.0)
+        let _done = self.read_option(Typed::Long(name), value)?;
+        Ok(())
     }
 
     // Reads a word that is not a value.
-    fn read_own(&mut self, word: &'w str) -> Result<Option<String>, AllocError> {
+    fn read_own(&mut self, word: &'w str) -> Result<(), AllocError> {
         if self.after_separator || is_plain(word) {
             if is_full(self.plan, &self.items) {
-                return Ok(Some(format!(in self.alloc; "unexpected argument \"{word}\"")?));
+                return write!(self.mistake, "unexpected argument \"{word}\"");
             }
-            self.items.push(Item::Word(word))?;
-            return Ok(None);
+            return Ok(self.items.push(Item::Word(word))?);
         }
         if word == "--" {
             self.after_separator = true;
-            return Ok(None);
+            return Ok(());
         }
         match word.strip_prefix("--") {
             Some(long) => self.read_long(long),
@@ -304,8 +295,8 @@ impl<'w> Reader<'w> {
         }
     }
 
-    // Reads a word. Returns the mistake, if there is one.
-    fn read_word(&mut self, word: &'w str) -> Result<Option<String>, AllocError> {
+    // Reads a word.
+    fn read_word(&mut self, word: &'w str) -> Result<(), AllocError> {
         let takes = match self.pending {
             Pending::Nothing => false,
             Pending::Value(_, _) => true,
@@ -315,32 +306,35 @@ impl<'w> Reader<'w> {
             self.add_value(word)?;
             if let Pending::Value(_, _) = self.pending {
                 self.pending = Pending::Nothing;
-                return self.refuse_value();
+                self.refuse_value()?;
             }
-            return Ok(None);
+        } else {
+            self.close()?;
+            if self.mistake.is_empty() {
+                self.read_own(word)?;
+            }
         }
-        if let Some(mistake) = self.close()? {
-            return Ok(Some(mistake));
-        }
-        self.read_own(word)
+        Ok(())
     }
 
-    // Reads these words. Returns the mistake, if there is one.
-    fn read_words(&mut self, words: &[&'w str]) -> Result<Option<String>, AllocError> {
+    // Reads these words, up to the first mistake.
+    fn read_words(&mut self, words: &[&'w str]) -> Result<(), AllocError> {
         for word in words {
-            if let Some(mistake) = self.read_word(word)? {
-                return Ok(Some(mistake));
+            if self.mistake.is_empty() {
+                self.read_word(word)?;
             }
         }
-        Ok(None)
+        Ok(())
     }
 
-    // Reads these words to the end of the line. Returns the mistake, if there is one.
-    fn read_all(&mut self, words: &[&'w str]) -> Result<Option<String>, AllocError> {
-        match self.read_words(words)? {
-            Some(mistake) => Ok(Some(mistake)),
-            None => self.close(),
-        }
+    // Ends the line.
+    fn end(&mut self) -> Result<(), AllocError> {
+        write_missing(
+            self.alloc,
+            &mut self.mistake,
+            self.plan,
+            self.items.as_slice(),
+        )
     }
 
     // What can come next.
@@ -366,24 +360,24 @@ fn new_reader<'w>(alloc: Global, plan: &'static Plan, lists: bool) -> Reader<'w>
         items: Vec::new(alloc),
         pending: Pending::Nothing,
         after_separator: false,
+        mistake: String::new(alloc),
     }
 }
 
-/// The reading of these words as a line.
+/// The reading of these words as a line, with or without the mistakes at its end.
 pub fn read<'w>(
     alloc: Global,
     plan: &'static Plan,
     words: &[&'w str],
-) -> Result<Reading<'w>, AllocError> {
+    whole: bool,
+) -> Result<Reader<'w>, AllocError> {
     let mut reader = new_reader(alloc, plan, true);
-    let mistake = reader.read_all(words)?;
-    let items = reader.items;
-    let missing = missing(alloc, plan, &items)?;
-    Ok(Reading {
-        items,
-        mistake,
-        missing,
-    })
+    reader.read_words(words)?;
+    reader.close()?;
+    if whole && reader.mistake.is_empty() {
+        reader.end()?;
+    }
+    Ok(reader)
 }
 
 /// What can come after these words if lists accept every value, and how many of the words are
@@ -394,9 +388,11 @@ pub fn next_after(
     words: &[&str],
 ) -> Result<(Next, usize), AllocError> {
     let mut reader = new_reader(alloc, plan, false);
-    match reader.read_words(words)? {
-        Some(_) => Ok((Next::Nothing, 0)),
-        None => Ok((reader.possible_next(), count_of(&reader.items))),
+    reader.read_words(words)?;
+    if reader.mistake.is_empty() {
+        Ok((reader.possible_next(), count_of(&reader.items)))
+    } else {
+        Ok((Next::Nothing, 0))
     }
 }
 
@@ -417,9 +413,9 @@ pub fn ends_in_option(
     count: usize,
 ) -> Result<bool, AllocError> {
     let mut reader = new_reader(alloc, plan, true);
+    reader.read_words(&[before, &[spelling.text]].concat(alloc)?)?;
     Ok(
-        reader.read_words(before)?.is_none()
-            && reader.read_word(spelling.text)?.is_none()
+        reader.mistake.is_empty()
             && reader.items.len() == count.saturating_add(1)
             && matches!(
                 reader.items.last(),

@@ -1,7 +1,7 @@
 //! The spellings and values that are offered, compared with the plain reader.
-use crate::brute::ends::owners_after;
+use crate::brute::ends::{can_own, list_of as words_in};
 use crate::brute::plain::{
-    Item, Key, Next, Place, Plan, Reading, Spelling, Typed, ends_in_option, list_at, next_after,
+    Item, Key, Next, Place, Plan, Reader, Spelling, Typed, ends_in_option, list_at, next_after,
     place_of, read,
 };
 use crate::brute::plans::{FRONTS, SPELLINGS, TAILS, WORDS, plans};
@@ -23,6 +23,12 @@ fn place_of_spelling(plan: &Plan, spelling: &str) -> Option<usize> {
     }
 }
 
+// Whether this is a spelling of an option that is not hidden.
+fn is_shown(plan: &Plan, spelling: Spelling) -> bool {
+    place_of_spelling(plan, spelling.text) == Some(spelling.place)
+        && matches!(plan.options.get(spelling.place), Some(option) if !option.hidden)
+}
+
 // What can come after some words.
 #[derive(Drop)]
 struct Possible {
@@ -33,8 +39,17 @@ struct Possible {
     words: Vec<&'static str>,
 }
 
-// Whether a line with these words around the spelling is legal, and is read as `front` and then the
-// option of the spelling.
+// Whether a line is legal, and is read as `front` and then the option of the spelling.
+fn has_option(line: &Reader<'static>, front: &[Item<'static>], spelling: Spelling) -> bool {
+    line.mistake.is_empty()
+        && line.items.starts_with(front)
+        && matches!(
+            line.items.get(front.len()),
+            Some(Item::Option(own, _)) if *own == spelling.place
+        )
+}
+
+// The same for a line with these words around the spelling.
 fn goes_on(
     alloc: Global,
     plan: &'static Plan,
@@ -44,16 +59,7 @@ fn goes_on(
     after: &[&'static str],
 ) -> Result<bool, AllocError> {
     let words = [before, &[spelling.text], after].concat(alloc)?;
-    let line = read(alloc, plan, &words)?;
-    Ok(
-        line.mistake.is_none()
-            && line.missing.is_none()
-            && line.items.starts_with(front)
-            && matches!(
-                line.items.get(front.len()),
-                Some(Item::Option(own, _)) if *own == spelling.place
-            ),
-    )
+    Ok(has_option(&read(alloc, plan, &words, true)?, front, spelling))
 }
 
 // Whether a spelling can come after these words, which are read as `front`: a line with one of
@@ -66,7 +72,7 @@ fn can_come(
     front: &[Item<'static>],
     spelling: Spelling,
 ) -> Result<bool, AllocError> {
-    if !ends_in_option(alloc, plan, before, spelling, front.len())? {
+    if !is_shown(plan, spelling) || !ends_in_option(alloc, plan, before, spelling, front.len())? {
         return Ok(false);
     }
     for after in TAILS.iter() {
@@ -84,27 +90,41 @@ fn can_come(
     Ok(false)
 }
 
-// The spellings that can come after these words, which are read so.
-fn possible_spellings(
+// Adds the spellings that can come after these words, which are read so.
+fn add_spellings(
     alloc: Global,
     plan: &'static Plan,
     before: &[&'static str],
-    front: &Reading<'static>,
-) -> Result<Vec<Spelling>, AllocError> {
-    let mut found = Vec::new(alloc);
-    for (place, option) in plan.options.iter().enumerate() {
+    front: &[Item<'static>],
+    possible: &mut Possible,
+) -> Result<(), AllocError> {
+    for place in 0..plan.options.len() {
         for text in SPELLINGS.iter() {
             let spelling = Spelling { text, place };
-            if front.mistake.is_none()
-                && !option.hidden
-                && place_of_spelling(plan, text) == Some(place)
-                && can_come(alloc, plan, before, &front.items, spelling)?
-            {
-                found.push(spelling)?;
+            if can_come(alloc, plan, before, front, spelling)? {
+                possible.spellings.push(spelling)?;
             }
         }
     }
-    Ok(found)
+    Ok(())
+}
+
+// Adds the positionals to which the word after `count` others can belong, and their lists.
+fn add_owners(
+    alloc: Global,
+    plan: &'static Plan,
+    count: usize,
+    possible: &mut Possible,
+) -> Result<(), AllocError> {
+    for (place, own) in plan.positionals.iter().enumerate() {
+        if can_own(alloc, plan, count, own.key)? {
+            possible.owners.push(place)?;
+            possible
+                .words
+                .extend_from_slice(words_in(own.words).unwrap_or(&[]))?;
+        }
+    }
+    Ok(())
 }
 
 // What can come after these words.
@@ -114,14 +134,18 @@ fn possible_after(
     before: &[&'static str],
 ) -> Result<Possible, AllocError> {
     let (next, count) = next_after(alloc, plan, before)?;
-    let spellings = possible_spellings(alloc, plan, before, &read(alloc, plan, before)?)?;
-    let (owners, words) = owners_after(alloc, plan, count)?;
-    Ok(Possible {
-        spellings,
+    let mut possible = Possible {
+        spellings: Vec::new(alloc),
         next,
-        owners,
-        words,
-    })
+        owners: Vec::new(alloc),
+        words: Vec::new(alloc),
+    };
+    let front = read(alloc, plan, before, false)?;
+    if front.mistake.is_empty() {
+        add_spellings(alloc, plan, before, &front.items, &mut possible)?;
+    }
+    add_owners(alloc, plan, count, &mut possible)?;
+    Ok(possible)
 }
 
 // Whether exactly the possible spellings that begin with what was typed are offered.
@@ -180,51 +204,49 @@ fn joined_option(plan: &Plan, typed: &'static str) -> Option<(usize, &'static st
     }
 }
 
-// Adds the texts that begin with what was typed.
+// Adds the texts, with `before` before each, that begin with what was typed.
 fn add_matching(
     alloc: Global,
     values: &mut Vec<String>,
+    before: &str,
     texts: &[&str],
     typed: &str,
 ) -> Result<(), AllocError> {
     for text in texts {
-        if text.starts_with(typed) {
-            values.push(String::from_str(alloc, text)?)?;
+        let word = format!(in alloc; "{before}{text}")?;
+        if word.as_str().starts_with(typed) {
+            values.push(word)?;
         }
     }
     Ok(())
 }
 
-// The values of lists that can complete a typed word, if `next` can come there and `words` are in
-// the lists of the positionals to which the word can belong.
-fn values_of(
+// Adds the values of lists that can complete a typed word, if `next` can come there and `words` are
+// in the lists of the positionals to which the word can belong.
+fn add_values(
     alloc: Global,
     plan: &Plan,
     next: Next,
     words: &[&str],
     typed: &'static str,
-) -> Result<Vec<String>, AllocError> {
-    let mut values = Vec::new(alloc);
+    values: &mut Vec<String>,
+) -> Result<(), AllocError> {
     match next {
         Next::OptionOrValue(place) | Next::Value(place) | Next::PlainValue(place) => {
             let own = list_at(plan, place).unwrap_or(&[]);
-            add_matching(alloc, &mut values, own, typed)?;
+            add_matching(alloc, values, "", own, typed)?;
         }
-        Next::Option | Next::Positional => add_matching(alloc, &mut values, words, typed)?,
+        Next::Option | Next::Positional => add_matching(alloc, values, "", words, typed)?,
         Next::Nothing => {}
     }
     if let (Next::Option | Next::OptionOrValue(_), Some((place, before))) = (
         next,
         joined_option(plan, typed),
     ) {
-        for value in list_at(plan, place).unwrap_or(&[]) {
-            let word = format!(in alloc; "{before}{value}")?;
-            if word.as_str().starts_with(typed) {
-                values.push(word)?;
-            }
-        }
+        let own = list_at(plan, place).unwrap_or(&[]);
+        add_matching(alloc, values, before, own, typed)?;
     }
-    Ok(values)
+    Ok(())
 }
 
 // Whether a typed word can be a positional, if `next` can come there.
@@ -245,10 +267,13 @@ fn is_right(
     } else {
         &[]
     };
+    let mut values = Vec::new(alloc);
+    let words = &possible.words;
+    add_values(alloc, plan, possible.next, words, typed, &mut values)?;
     Ok(
         are_offered(&possible.spellings, typed, &completion.spellings)
             && completion.arguments.as_slice() == owners
-            && completion.values == values_of(alloc, plan, possible.next, &possible.words, typed)?,
+            && completion.values == values,
     )
 }
 

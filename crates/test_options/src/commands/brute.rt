@@ -38,6 +38,8 @@ enum Meaning {
     Refused,
 }
 
+type Offer = Step<'static, Task, Flag, Value>;
+
 // The meaning of a line, with the kind of the general option at this place.
 fn meaning_of(line: &CommandLine<'_, Task, Flag, Value>, place: usize) -> Meaning {
     match line {
@@ -53,16 +55,13 @@ fn meaning_of(line: &CommandLine<'_, Task, Flag, Value>, place: usize) -> Meanin
 }
 
 // The same for a line of the words `before` and `after`.
-fn read(
+fn read<'w>(
     alloc: Global,
-    before: &[&str],
-    after: &[&str],
+    before: &[&'w str],
+    after: &[&'w str],
     place: usize,
 ) -> Result<Meaning, AllocError> {
-    let mut words = words_of(alloc, before)?;
-    for word in after {
-        words.push(OsString::from_text(alloc, word)?)?;
-    }
+    let words = words_of(alloc, &[before, after].concat(alloc)?)?;
     Ok(meaning_of(&git().read(alloc, words)?, place))
 }
 
@@ -146,14 +145,19 @@ fn has_line(text: &str, front: &str) -> bool {
     text.lines().any(|line| line.starts_with(front))
 }
 
-// What is offered for this typed word after these words, or `None` if a command is asked.
-fn offered(alloc: Global, before: &[&str], typed: &str) -> Result<Option<String>, AllocError> {
+// What is offered for this typed word after these words.
+fn offered(alloc: Global, before: &[&str], typed: &str) -> Result<Offer, AllocError> {
     let words = words_of(alloc, before)?;
     let typed = OsString::from_text(alloc, typed)?;
-    match git().answer_request(alloc, Request::Completion(words, typed), 80)? {
-        Step::Command(_, _, _) => Ok(None),
-        Step::Text(text) => Ok(Some(text)),
-        Step::Refused(_) => Ok(Some(String::new(alloc))),
+    git().answer_request(alloc, Request::Completion(words, typed), 80)
+}
+
+// The text that is printed, which is empty after a mistake, or `None` if a command is asked.
+fn text_in(step: &Offer) -> Option<&str> {
+    match step {
+        Step::Command(_, _, _) => None,
+        Step::Text(text) => Some(text.as_str()),
+        Step::Refused(_) => Some(""),
     }
 }
 
@@ -204,7 +208,7 @@ fn are_right(
 fn is_offered_right(alloc: Global, before: &[&str]) -> Result<bool, AllocError> {
     let plain = offered(alloc, before, "")?;
     let dashed = offered(alloc, before, "-")?;
-    are_right(alloc, before, plain.as_deref(), dashed.as_deref())
+    are_right(alloc, before, text_in(&plain), text_in(&dashed))
 }
 
 // For how many lines of at most two words they are. The numbers of these lines are below 9 * 9.

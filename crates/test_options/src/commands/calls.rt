@@ -3,6 +3,7 @@ use crate::commands::git::{Flag, Task, Value, git};
 use lexopt_commands::{Command, CommandLine, Commands, Runs, Step};
 use lexopt_options::{OsString, Request};
 use std::alloc::{AllocError, Global};
+use std::fmt::Debug;
 use test_helpers::environments::{Arguments, Variable};
 use test_helpers::parsers::words_of;
 
@@ -111,25 +112,30 @@ static ROWS: [(Call, &[u8], &str); 17] = [
 // its words; or the request; or the general options before the mistake, and the mistake.
 fn text_of_line(
     alloc: Global,
-    line: &CommandLine<'_, Task, Flag, Value>,
+    line: &Result<CommandLine<'_, Task, Flag, Value>, AllocError>,
 ) -> Result<String, AllocError> {
     match line {
-        CommandLine::Command(parsed, name, task, words) => {
+        Ok(CommandLine::Command(parsed, name, task, words)) => {
             format!(in alloc; "{parsed:?} {name} {task:?} {words:?}")
         }
-        CommandLine::Asked(asked) => format!(in alloc; "{asked:?}"),
-        CommandLine::Refused(refused) => {
+        Ok(CommandLine::Asked(asked)) => format!(in alloc; "{asked:?}"),
+        Ok(CommandLine::Refused(refused)) => {
             format!(in alloc; "{:?}, then {:?}", refused.before, refused.mistake)
         }
+        Err(_) => Err(AllocError),
     }
 }
 
-// What the program does: the command's path, its key and its call, a text to print, or a refusal.
-fn text_of_step(alloc: Global, step: Step<'_, Task, Flag, Value>) -> Result<String, AllocError> {
+/// What the program does: the command's path, its key and its call, a text to print, or a refusal.
+pub fn text_of_step<K: Debug>(
+    alloc: Global,
+    step: &Result<Step<'_, K, Flag, Value>, AllocError>,
+) -> Result<String, AllocError> {
     match step {
-        Step::Command(task, path, call) => format!(in alloc; "{path} {task:?} {call:?}"),
-        Step::Text(text) => Ok(text),
-        Step::Refused(refused) => refused.to_string(alloc),
+        Ok(Step::Command(task, path, call)) => format!(in alloc; "{path} {task:?} {call:?}"),
+        Ok(Step::Text(text)) => text.to_string(alloc),
+        Ok(Step::Refused(refused)) => refused.to_string(alloc),
+        Err(_) => Err(AllocError),
     }
 }
 
@@ -143,16 +149,15 @@ fn text_of_completion(alloc: Global, mut words: Vec<OsString>) -> Result<String,
 // What the call returns for these words, as a text.
 fn text_of(alloc: Global, call: Call, line: &[u8]) -> Result<String, AllocError> {
     let words = words_of(alloc, line)?;
-    let step = match call {
-        Read => return text_of_line(alloc, &git().read(alloc, words)?),
-        Answer => git().answer(alloc, words, 30),
+    match call {
+        Read => text_of_line(alloc, &git().read(alloc, words)),
+        Answer => text_of_step(alloc, &git().answer(alloc, words, 30)),
         Complete => {
             let request = Request::new(alloc, Some(b"zsh_complete"), words);
-            git().answer_request(alloc, request, 30)
+            text_of_step(alloc, &git().answer_request(alloc, request, 30))
         }
-        CompleteLeading => return text_of_completion(alloc, words),
-    };
-    text_of_step(alloc, step?)
+        CompleteLeading => text_of_completion(alloc, words),
+    }
 }
 
 #[test]
@@ -170,7 +175,7 @@ fn text_of_words(alloc: Global, words: &[OsString]) -> Result<String, AllocError
         name: "COLUMNS",
         value: Some(b"30"),
     };
-    text_of_step(alloc, git().from_env(&(environment, alloc))?)
+    text_of_step(alloc, &git().from_env(&(environment, alloc)))
 }
 
 #[test]
@@ -180,17 +185,17 @@ fn help_of_the_environment(rt: HostRuntime) {
     assert_eq!(rt; text.as_str(), HELP_AT_30);
 }
 
+// Whether these are the texts of the declaration.
+fn are_texts(alloc: Global) -> Result<bool, AllocError> {
+    let usage = "Usage: git [OPTION]... COMMAND\n       [ARGUMENT]...\n";
+    Ok(git().usage(alloc, 30)?.as_str() == usage && git().help(alloc, 30)?.as_str() == HELP_AT_30)
+}
+
 #[test]
 fn what_was_given(rt: HostRuntime) {
     assert_eq!(rt; git().options().program(), "git");
     assert_eq!(rt; git().commands().len(), 4);
-    let usage = git().usage(rt.alloc(), 30).expect(&rt, "memory");
-    assert_eq!(rt;
-        usage.as_str(),
-        "Usage: git [OPTION]... COMMAND\n       [ARGUMENT]...\n"
-    );
-    let help = git().help(rt.alloc(), 30).expect(&rt, "memory");
-    assert_eq!(rt; help.as_str(), HELP_AT_30);
+    assert!(rt; are_texts(rt.alloc()).expect(&rt, "memory"));
 }
 
 static BLANK: [Command<'static, Task>; 1] = [Command {

@@ -1,5 +1,6 @@
 //! A command that has commands of its own: what is read at each level, and the path in what is
 //! printed.
+use crate::commands::calls::text_of_step;
 use crate::commands::git::{Flag, Task, Value, git};
 use lexopt_commands::{Call, Command, Commands, Step, declare_commands};
 use lexopt_options::{Answer, Declaration, Names, Options, Request, declare};
@@ -68,35 +69,28 @@ static ROWS: [(Option<&[u8]>, &[u8], &str); 6] = [
 fn text_of_add(alloc: Global, path: &str, call: Call<Flag, Value>) -> Result<String, AllocError> {
     let options = Options::new(&ADD).with_program(path);
     let (general, answer) = call.answer(alloc, &options, 80)?;
-    match answer {
+    match &answer {
         Answer::Parsed(line) => format!(in alloc; "{general:?} {line:?}"),
-        Answer::Text(text) => Ok(text),
+        Answer::Text(text) => text.to_string(alloc),
         Answer::Refused(refused) => refused.to_string(alloc),
     }
 }
 
 // What is read of the words of `remote`, or printed.
-fn text_of_remote(
-    alloc: Global,
-    path: &str,
-    call: Call<Flag, Value>,
-) -> Result<String, AllocError> {
+fn remote_text(alloc: Global, path: &str, call: Call<Flag, Value>) -> Result<String, AllocError> {
     let commands = Commands::new(Options::new(&REMOTE).with_program(path), REMOTE_COMMANDS);
-    match commands.answer_call(alloc, call, 80)? {
-        Step::Command((), path, call) => text_of_add(alloc, path.as_str(), call),
-        Step::Text(text) => Ok(text),
-        Step::Refused(refused) => refused.to_string(alloc),
+    match commands.answer_call(alloc, call, 80) {
+        Ok(Step::Command((), path, call)) => text_of_add(alloc, path.as_str(), call),
+        other => text_of_step(alloc, &other),
     }
 }
 
 // What is read of these words, or printed.
 fn text_of(alloc: Global, value: Option<&[u8]>, line: &[u8]) -> Result<String, AllocError> {
     let words = words_of(alloc, line)?;
-    match git().answer_request(alloc, Request::new(alloc, value, words), 80)? {
-        Step::Command(Task::Remote, path, call) => text_of_remote(alloc, path.as_str(), call),
-        Step::Command(_, path, _) => Ok(path),
-        Step::Text(text) => Ok(text),
-        Step::Refused(refused) => refused.to_string(alloc),
+    match git().answer_request(alloc, Request::new(alloc, value, words), 80) {
+        Ok(Step::Command(Task::Remote, path, call)) => remote_text(alloc, path.as_str(), call),
+        other => text_of_step(alloc, &other),
     }
 }
 
