@@ -1,6 +1,6 @@
 """The cases of the comparison: words of a command line, and calls. Random cases have fixed seeds.
 
-A case is a line in the form that `crates/bench_port/src/compare.rt` describes. Run without an
+A case is a line in the form that `crates/bench_compare/src/main.rt` describes. Run without an
 argument this lists the groups of cases.
 """
 

@@ -12,20 +12,10 @@
 //! - `declare` declares these options, and copies nothing.
 //!
 //! Then it prints counts and a hash of what was read.
-//!
-//! If the variable `PROCESS` is set, the program does one thing with its own words instead, and
-//! prints counts of what it saw:
-//!
-//! - `nothing`: nothing;
-//! - `ask`: asks the environment for each word, and keeps none;
-//! - `read`: reads the words as a line in which `-n` and `--name` take a value, by a parser that
-//!   `from_env_os` makes;
-//! - `parsed`: reads the words by the declared options.
 #![tactic(auto)]
 
 mod commands;
 mod declared;
-mod process;
 mod seen;
 
 use anyhow::{Context, Result, bail};
@@ -187,9 +177,6 @@ fn repeat(
 }
 
 fn main(rt: HostRuntime) -> Result<()> {
-    if let Ok(work) = env::var(&rt, "PROCESS") {
-        return process::act(&rt, &work);
-    }
     let alloc = rt.alloc();
     let mut args = env::args(&rt)?;
     let (Some(_program), Some(work), Some(times)) = (args.next(), args.next(), args.next()) else {

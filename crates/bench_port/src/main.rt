@@ -17,13 +17,8 @@
 //!   also copies the words that spell them.
 //!
 //! Then it prints counts and a hash of what was read.
-//!
-//! If the only word is `compare`, standard input has cases as `compare.rt` describes them, and the
-//! program writes the results of their calls.
 #![tactic(auto)]
 
-mod answers;
-mod compare;
 mod seen;
 
 use anyhow::{Context, Result, bail};
@@ -265,16 +260,12 @@ fn spell_items(
 fn main(rt: HostRuntime) -> Result<()> {
     let alloc = rt.alloc();
     let mut args = env::args(&rt)?;
-    let (Some(_program), Some(work)) = (args.next(), args.next()) else {
-        bail!("usage: bench_port WORK TIMES, or bench_port compare");
+    let (Some(_program), Some(work), Some(times)) = (args.next(), args.next(), args.next()) else {
+        bail!("usage: bench_port WORK TIMES");
     };
-    if work.as_str() == "compare" {
-        return compare::answer_cases(&rt);
-    }
     let work = Work::of_name(&work).context(
         "the work is copy, next, collected, fallible, values, raw, parse, items, spell or spelled",
     )?;
-    let times = args.next().context("how many times")?;
     let times = times.parse::<u64>().context("how many times")?;
 
     let mut input = Vec::new(alloc);

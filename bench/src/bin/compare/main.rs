@@ -1,5 +1,5 @@
 //! Makes calls and writes their results, so that these can be compared.
-//! `crates/bench_port/src/compare.rt` does the same with this repository's port, and describes the
+//! `crates/bench_compare/src/main.rt` does the same with this repository's port, and describes the
 //! form of a case.
 
 mod answers;

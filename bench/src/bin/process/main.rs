@@ -1,6 +1,6 @@
 //! Does one thing with its own words, so that the cost of a whole process can be measured.
-//! `crates/bench_options/src/process.rt` does the same with this repository's port, and `main.rt`
-//! there describes the variable `PROCESS`.
+//! `crates/bench_process/src/main.rt` does the same with this repository's port, and describes the
+//! variable `PROCESS`.
 
 #[path = "../options/parsed.rs"]
 mod parsed;
@@ -120,7 +120,7 @@ fn main() -> Result<(), Box<dyn std::error::Error>> {
     match env::var("PROCESS").as_deref() {
         Ok("nothing") => {}
         Ok("ask") => ask(&mut seen),
-        Ok("read") => read(&mut seen)?,
+        Ok("read") | Err(env::VarError::NotPresent) => read(&mut seen)?,
         Ok("parsed") => read_parsed(&mut seen)?,
         _ => return Err("PROCESS is nothing, ask, read or parsed".into()),
     }

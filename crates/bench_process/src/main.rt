@@ -1,27 +1,41 @@
-//! Does one thing with the program's own words, to measure the cost of a whole process.
+//! Does one thing with its own words, to measure the cost of a whole process.
 //! `bench/src/bin/process` does the same with the Rust crate.
-use crate::declared::{DECLARATION, Flag, Maybe, Value, Values, Word};
+//!
+//! The variable `PROCESS` says what it does:
+//!
+//! - `nothing`: nothing;
+//! - `ask`: asks the environment for each word, and keeps none;
+//! - `read`, or if the variable is not set: reads the words as a line in which `-n` and `--name` take
+//!   a value, by a parser that `from_env_os` makes;
+//! - `parsed`: reads the words by ten declared options.
+//!
+//! Then it prints counts of what it saw.
+#![tactic(auto)]
+
+mod declared;
+
 use anyhow::{Result, bail};
+use declared::{DECLARATION, Flag, Maybe, Value, Values, Word};
 use lexopt_base::{Arg, Error, Parser};
 use lexopt_options::{Answer, Options, Parsed};
 use std::alloc::AllocError;
-use std::env::Env;
-use std::fmt;
+use std::env::{Env, VarError};
+use std::{env, fmt};
 
 // Room for the longest word that Linux allows.
 const LONGEST_WORD: usize = 131_071;
 
 #[derive(Drop)]
-struct Counts {
+struct Seen {
     options: u64,
     values: u64,
     positionals: u64,
     bytes: u64,
 }
 
-impl Counts {
-    fn new() -> Counts {
-        Counts {
+impl Seen {
+    fn new() -> Seen {
+        Seen {
             options: 0,
             values: 0,
             positionals: 0,
@@ -72,7 +86,7 @@ impl Counts {
     }
 }
 
-impl fmt::Display for Counts {
+impl fmt::Display for Seen {
     fn fmt<W: fmt::Write>(&self, f: &mut fmt::Formatter<W>) -> fmt::Result {
         writeln!(f, "options {}", self.options)?;
         writeln!(f, "values {}", self.values)?;
@@ -82,7 +96,7 @@ impl fmt::Display for Counts {
 }
 
 // Asks the environment for each word, and keeps none.
-fn ask(rt: &HostRuntime, seen: &mut Counts) -> Result<(), AllocError> {
+fn ask(rt: &HostRuntime, seen: &mut Seen) -> Result<(), AllocError> {
     let mut room = vec![in rt.alloc(); 0u8; LONGEST_WORD]?;
     for place in 0..usize::MAX {
         match rt.arg(place, &mut room) {
@@ -94,7 +108,7 @@ fn ask(rt: &HostRuntime, seen: &mut Counts) -> Result<(), AllocError> {
 }
 
 // Reads the words by calls of the parser.
-fn read(rt: &HostRuntime, seen: &mut Counts) -> Result<(), Error> {
+fn read(rt: &HostRuntime, seen: &mut Seen) -> Result<(), Error> {
     let mut parser = Parser::from_env_os(rt, rt.alloc())?;
     for _ in 0..u64::MAX {
         match parser.next()? {
@@ -120,7 +134,7 @@ fn read(rt: &HostRuntime, seen: &mut Counts) -> Result<(), Error> {
 }
 
 // Reads the words by declared options. Returns whether they were read.
-fn read_parsed(rt: &HostRuntime, seen: &mut Counts) -> Result<bool, AllocError> {
+fn read_parsed(rt: &HostRuntime, seen: &mut Seen) -> Result<bool, AllocError> {
     match Options::new(&DECLARATION).from_env(rt)? {
         Answer::Parsed(line) => {
             for parsed in &line {
@@ -132,15 +146,14 @@ fn read_parsed(rt: &HostRuntime, seen: &mut Counts) -> Result<bool, AllocError> 
     }
 }
 
-/// Does what the variable `PROCESS` says, and prints counts of what it saw.
-pub fn act(rt: &HostRuntime, work: &str) -> Result<()> {
-    let mut seen = Counts::new();
-    match work {
-        "nothing" => {}
-        "ask" => ask(rt, &mut seen)?,
-        "read" => read(rt, &mut seen)?,
-        "parsed" => {
-            if !read_parsed(rt, &mut seen)? {
+fn main(rt: HostRuntime) -> Result<()> {
+    let mut seen = Seen::new();
+    match env::var(&rt, "PROCESS").as_deref() {
+        Ok("nothing") => {}
+        Ok("ask") => ask(&rt, &mut seen)?,
+        Ok("read") | Err(VarError::NotPresent) => read(&rt, &mut seen)?,
+        Ok("parsed") => {
+            if !read_parsed(&rt, &mut seen)? {
                 bail!("the words are not those of the declared options");
             }
         }

@@ -13,9 +13,14 @@
 //!   then N items; `l` is `peek` and `as_slice`; `i` is `next_if` with the Nth wanted word; `e` is
 //!   `set_short_equals`, false if N is 0; `c` is `clone`, after which the copy is used; `b` is
 //!   `bin_name`.
-use crate::answers::Answers;
+#![tactic(auto)]
+
+mod answers;
+
+use answers::Answers;
 use anyhow::Result;
-use lexopt::{Arg, Error, OsString, Parser, RawArgs, ValueExt};
+use lexopt_base::prelude::ValueExt;
+use lexopt_base::{Arg, Error, OsString, Parser, RawArgs};
 use std::alloc::{AllocError, Global};
 use std::io::{self, Read, Write};
 
@@ -233,8 +238,7 @@ fn write_case(alloc: Global, case: &str, answers: &mut Answers) -> Result<(), Er
     make_calls(alloc, &mut parser, calls, answers)
 }
 
-/// Makes the calls of each case, and writes their results.
-pub fn answer_cases(rt: &HostRuntime) -> Result<()> {
+fn main(rt: HostRuntime) -> Result<()> {
     let alloc = rt.alloc();
     let mut input = String::new(alloc);
     rt.reader().read_to_string(&mut input)?;
@@ -242,6 +246,6 @@ pub fn answer_cases(rt: &HostRuntime) -> Result<()> {
     for case in input.lines() {
         write_case(alloc, case, &mut answers)?;
     }
-    io::writer(rt).write_all(answers.text())?;
+    io::writer(&rt).write_all(answers.text())?;
     Ok(())
 }

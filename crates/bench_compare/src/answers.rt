@@ -1,5 +1,5 @@
 //! The text of results: a letter, and then bytes in hexadecimal digits.
-use lexopt::{Error, OsString};
+use lexopt_base::{Error, OsString};
 use std::alloc::Global;
 
 const DIGITS: [u8; 16] = *b"0123456789abcdef";
