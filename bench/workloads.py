@@ -12,15 +12,6 @@ from typing import Callable
 
 MIB = 1 << 20
 
-# By work: the bound of its rows, that is the greatest ratio to the Rust crate, and the reason. A
-# workload can have another bound. Other works have 1.0.
-BOUNDS = {
-    "parsed": (
-        1.2,
-        "A declaration is looked up at run time, and a `match` is compiled.",
-    ),
-}
-
 # By work: the bound of the geometric mean of its rows.
 MEANS = {"parsed": 1.0}
 
@@ -67,6 +58,9 @@ OF_ERRORS = (
     "An `Error` has room for its cause, some 300 bytes. The function with the loop has at least one of them, and zeroes it once "
     "for each line."
 )
+OF_LINES = (
+    "A `Line` has room for a mistake and what is printed of it, some 170 bytes, which are zeroed and copied once for each line."
+)
 OF_EMPTY_WORDS = (
     "A word that is taken leaves an empty word in its place, which is written, and dropped at the end. This costs some 10 "
     "instructions. The owning iterator of a `Vec` would leave no word, but that of Rattle's std cannot lend the unread words as "
@@ -99,7 +93,7 @@ class Workload:
     times: int = 2  # the number of reads over which the cost of one is counted
     is_timed: bool = False  # whether its time is measured too
     is_declared: bool = False  # whether its words are read by declared options too
-    # By work: its bound and the reason, in place of those in BOUNDS.
+    # By work: its bound, if that is not 1.0, and the reason.
     bounds: dict = field(default_factory=dict)
 
     @property
@@ -110,7 +104,7 @@ class Workload:
 
     def bound(self, work):
         """The greatest ratio without the copy that is allowed, and the reason."""
-        return self.bounds.get(work, BOUNDS.get(work, (1.0, "")))
+        return self.bounds.get(work, (1.0, ""))
 
     @property
     def is_spelled(self):
@@ -163,7 +157,7 @@ WORKLOADS = [
         repeated([b""]),
         times=100,
         is_declared=True,
-        bounds={"next": (1.2, OF_ERRORS)},
+        bounds={"next": (1.2, OF_ERRORS), "parsed": (1.1, OF_LINES)},
     ),
     Workload("{size} positionals, by `from_args`", 10_000, repeated([b"file.txt"]), work="collected"),
     Workload(
