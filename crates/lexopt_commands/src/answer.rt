@@ -18,9 +18,9 @@ use std::env::Env;
 #[derive(Debug, Drop)]
 pub enum Step<'a, C, F, V = Infallible, M = Infallible, S = Infallible> {
     /// Run the command with this key. The text is its path, such as `git remote add`, which
-    /// `Options::with_program` makes the name of the program in the command's options. Then hand the
-    /// call on: to [`Call::answer`] with these options, or to [`Commands::answer_call`] if the command
-    /// has commands of its own.
+    /// `Options::with_program` makes the name of the program in the command's options. Then hand
+    /// the call on: to [`Call::answer`] with these options, or to [`Commands::answer_call`] if the
+    /// command has commands of its own.
     Command(C, String, Call<F, V, M, S>),
     /// Print this to standard output, and exit: the help, the version, or what a shell asked for.
     Text(String),
@@ -158,8 +158,8 @@ impl<'a, C: Copy, F: Copy, V: Copy, M: Copy, S: Copy> Commands<'a, C, F, V, M, S
     /// - [`Request::Completion`] right after such options: print a line for each command whose name
     ///   begins with what was typed, if a name can come there, and then what
     ///   `Options::completion_text` returns by the general declaration.
-    /// - [`Request::Completion`] right after such options and a name that asks for the help: print a
-    ///   line for each command whose name begins with what was typed.
+    /// - [`Request::Completion`] right after such options and a name that asks for the help: print
+    ///   a line for each command whose name begins with what was typed.
     /// - [`Request::Completion`] after such options and any other word, or after a name that asks
     ///   for the help and any other word: print nothing.
     /// - [`Request::Completion`] anywhere else, for example while a required general option is
@@ -199,8 +199,8 @@ impl<'a, C: Copy, F: Copy, V: Copy, M: Copy, S: Copy> Commands<'a, C, F, V, M, S
     /// Returns what the program has to do about the call of a command whose own commands are these.
     ///
     /// It is what [`Commands::answer_request`] returns for the words after the command's name, or
-    /// for what a shell asks about them. For a line, the general options of `call` come before those
-    /// that are read here, so both have the same types of keys. `call` is consumed.
+    /// for what a shell asks about them. For a line, the general options of `call` come before
+    /// those that are read here, so both have the same types of keys. `call` is consumed.
     ///
     /// # Errors
     ///

@@ -11,12 +11,12 @@ use std::convert::Infallible;
 /// What a command is called with: the general options before its name, and the words after it, or
 /// what a shell asks about these.
 ///
-/// [`Step::Command`](crate::Step::Command) has it. A program hands it on to [`Call::answer`] with the
-/// options of the command, or to [`Commands::answer_call`] if the command has commands of its own.
-/// It has no public fields, so a program gets the general options only with the answer. A shell may
-/// be asking, and reads what the program prints, so print nothing before these calls have returned.
-/// A program that has to know the general options earlier, such as one that looks for commands in a
-/// folder, reads its words by [`Commands::read`].
+/// [`Step::Command`](crate::Step::Command) has it. A program hands it on to [`Call::answer`] with
+/// the options of the command, or to [`Commands::answer_call`] if the command has commands of its
+/// own. It has no public fields, so a program gets the general options only with the answer. A
+/// shell may be asking, and reads what the program prints, so print nothing before these calls have
+/// returned. A program that has to know the general options earlier, such as one that looks for
+/// commands in a folder, reads its words by [`Commands::read`].
 ///
 /// The types of keys are those of [`Commands`].
 #[derive(Debug, Drop)]
@@ -31,8 +31,8 @@ impl<F: Drop, V: Drop, M: Drop, S: Drop> Call<F, V, M, S> {
     /// The given options are those of the command. What the program has to do is what
     /// `Options::answer_request` returns for the words after the command's name, or for what a
     /// shell asks about them. `width` is the width of the help, in columns. In a call that
-    /// [`Commands::answer_request`] or [`Commands::answer_call`] returns for a completion, the list of
-    /// general options is empty.
+    /// [`Commands::answer_request`] or [`Commands::answer_call`] returns for a completion, the list
+    /// of general options is empty.
     ///
     /// # Errors
     ///

@@ -14,8 +14,8 @@ use std::convert::Infallible;
 /// control character of ASCII or U+FFFD in it.
 ///
 /// `C` is the type of the program's keys for commands. The others are those of the general
-/// declaration: for flags, options of one value, options whose value may be left out, and options of
-/// several values. There is none for positionals, since the general declaration has none.
+/// declaration: for flags, options of one value, options whose value may be left out, and options
+/// of several values. There is none for positionals, since the general declaration has none.
 pub struct Commands<'a, C, F, V = Infallible, M = Infallible, S = Infallible> {
     options: Options<'a, F, V, Infallible, M, S>,
     commands: &'a [Command<'a, C>],

@@ -4,8 +4,8 @@
 //! A program declares its general options and the options of each command with `declare!` of
 //! `lexopt_options`, and its commands with [`declare_commands!`](crate::declare_commands). It makes
 //! [`Commands`] of the general declaration and the commands, and calls [`Commands::from_env`]. If
-//! the line has a command, that returns its key, its path and a [`Call`], which the program hands on
-//! to the options of the command.
+//! the line has a command, that returns its key, its path and a [`Call`], which the program hands
+//! on to the options of the command.
 //!
 //! # A whole program
 //!
@@ -174,8 +174,8 @@
 //! - A command that has commands of its own, such as `remote add`, makes [`Commands`] of them, with
 //!   general options that have its path as the name of their program, and hands the call on to
 //!   [`Commands::answer_call`].
-//! - Print nothing before [`Call::answer`] or [`Commands::answer_call`] has returned: a shell may be
-//!   asking, and reads what the program prints.
+//! - Print nothing before [`Call::answer`] or [`Commands::answer_call`] has returned: a shell may
+//!   be asking, and reads what the program prints.
 //! - [`Commands::answer`] reads words of the program's own, as a test does; [`Commands::read`]
 //!   returns the request for the help, and the mistake, as values; and [`Commands::help`] and
 //!   [`Commands::usage`] return the help and its usage line.

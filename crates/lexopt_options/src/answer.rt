@@ -270,8 +270,8 @@ impl<F, V, P, M, S> Options<'_, F, V, P, M, S> {
     /// - Unless nothing was typed, one for each spelling that can come and whose option is not
     ///   hidden: the spelling, a tab, and the help text of the option, with a blank for each
     ///   control character of ASCII.
-    /// - One for each value in a list that can come, after `+` unless it begins with a dash. No
-    ///   value in a list begins with a dash; an option with its value does.
+    /// - One for each value in a list that can come: after `+`, as in `+tar`, if it is a word of
+    ///   its own; without it after its option, as in `--format=tar`.
     /// - If a word that is not an option can come: one line by the [`Words`] of the option that it
     ///   is a value of, or of the positionals that it can belong to: `files`, `directories`, or no
     ///   line.
@@ -491,8 +491,8 @@ impl<'a, F: Copy, V: Copy, P: Copy, M: Copy, S: Copy> Options<'a, F, V, P, M, S>
     /// called. These are the values:
     ///
     /// - `bash_source`, `zsh_source` and `fish_source` ask for the script of that shell.
-    /// - `bash_complete`, `zsh_complete` and `fish_complete` ask what can come. Then the last word
-    ///   is what was typed, and those before it are the words before that.
+    /// - `bash_complete`, `zsh_complete` and `fish_complete` ask what can come. In that case the
+    ///   last word is what was typed, and the others come before it.
     /// - Any other value is refused, unless it is empty.
     ///
     /// The clause is about some words, some value and some width. No clause can state that they are

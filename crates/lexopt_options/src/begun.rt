@@ -1,5 +1,5 @@
-//! Reads leading options for completion: the words after them, or, if there are none, what can come.
-//! `leading.rt` reads leading options by keys.
+//! Reads leading options for completion: the words after them, or, if there are none, what can
+//! come. `leading.rt` reads leading options by keys.
 use crate::front::{Begun, read_front};
 use crate::leading::words_from;
 use crate::options::Options;
@@ -30,9 +30,9 @@ impl<F, V, M, S> Options<'_, F, V, Infallible, M, S> {
     /// Returns the words after the leading options, if there are any, and otherwise what can come
     /// where `typed` is typed.
     ///
-    /// The words are without the name of the program. This call consumes them, and reads the options
-    /// alone, as `Options::read_leading` does. It is for a library that completes what comes after
-    /// leading options, such as the name of a command.
+    /// The words are without the name of the program. This call consumes them, and reads the
+    /// options alone, as `Options::read_leading` does. It is for a library that completes what
+    /// comes after leading options, such as the name of a command.
     ///
     /// # Errors
     ///

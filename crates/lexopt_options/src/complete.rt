@@ -53,10 +53,10 @@ pub struct Completion<'a, F, V = Infallible, M = Infallible, S = Infallible> {
     /// order of the declaration. Hidden options have none here. There are none if what was typed is
     /// not UTF-8.
     pub spellings: Vec<Spelling<'a>>,
-    /// What lists offer there, and begins with what was typed, in the order of the lists. First
-    /// come the values of the option of which a word would be a value there; then the words of the
-    /// positionals to which it can belong; then, if the value of an option is typed in the word
-    /// itself, that word with each value in the list of this option.
+    /// The words in lists that can come there and begin with what was typed, in the order of the
+    /// lists. First come the values of the option of which a word would be a value there; then the
+    /// words of the positionals to which it can belong; then, if the value of an option is typed in
+    /// the word itself, the values in the list of that option, each after what comes before it.
     pub values: Vec<String>,
     /// What a word is there that begins with what was typed, is longer, and is not an option,
     /// whichever it is; `None` if no such word can come.
@@ -200,8 +200,8 @@ fn text_before(alloc: Global, word: &[u8], value: &[u8]) -> Result<Option<String
     }
 }
 
-// The index of the option whose value is in the word, and what comes before the value. `last` is what
-// the word alone means last.
+// The index of the option whose value is in the word, and what comes before the value. `last` is
+// what the word alone means last.
 fn joined_value(
     alloc: Global,
     last: Option<(usize, OsString)>,
@@ -351,8 +351,8 @@ impl<'a, F, V, P, M, S> Options<'a, F, V, P, M, S> {
     ghost use Rattle.lexopt_options.specs.Roles.{place_view};
     ghost use Rattle.lexopt_options.specs.States.{IsFrontOf};
 
-    // The spellings that begin with what was typed; none if no option can come after words that mean
-    // this.
+    // The spellings that begin with what was typed; none if no option can come after words that
+    // mean this.
     fn spellings_for(
         &self,
         alloc: Global,

@@ -12,8 +12,8 @@
 /// - `options` has a line for each option, as described below.
 /// - `positionals` has a line for each positional, as described below.
 /// - `epilogue: ["..", ".."]` has paragraphs for the end of the help.
-/// - `short_equals: false` makes `=` right after a short option part of its value, so that `-d=` has
-///   the value `=`. Otherwise `=` separates a short option from its value, as in `-o=file`.
+/// - `short_equals: false` makes `=` right after a short option part of its value, so that `-d=`
+///   has the value `=`. Otherwise `=` separates a short option from its value, as in `-o=file`.
 ///
 /// A line of `options` is one of these. The key is the program's own value for the option, the
 /// names are [`Names`](crate::Names), and the placeholder is what the help shows for a value, such

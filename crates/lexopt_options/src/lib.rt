@@ -181,7 +181,7 @@
 //!   option. [`Options::parse_maybe`] and [`Options::parse_values`] do so for the other kinds of
 //!   options, and [`ValueExt::parse`] and [`ValueExt::string`] for positionals. A value from a list
 //!   of `.one_of(..)` is converted so too, if the program has an enum with `FromStr` for it. The
-//!   error of that `FromStr` is any type that is a `std::error::Error`.
+//!   error of that `FromStr` is an `anyhow::Error`, or any type that is a `std::error::Error`.
 //! - [`UsageError`] is the error of a function that finds mistakes itself. `?` and
 //!   `UsageError::from` make it. [`Options::report`] makes of it what to print, and
 //!   [`Report::status`] is the status to exit with.
@@ -201,17 +201,18 @@
 //! _PACK_COMPLETE=fish_source pack | source    # fish
 //! ```
 //!
-//! To see what a shell gets, prove the program by `rt run` and call what that leaves in `out`, since
-//! `rt try` passes on no environment variable: `_PACK_COMPLETE=bash_complete out/pack --ou` prints
-//! `--output`, a tab and its help text.
+//! To see what a shell gets, prove the program by `rt run` and call what that leaves in `out`,
+//! since `rt try` passes on no environment variable: `_PACK_COMPLETE=bash_complete out/pack --ou`
+//! prints `--output`, a tab and its help text.
 //!
 //! [`variable`] returns the name of that variable. The program needs no more code for completion:
-//! [`Options::from_env`] responds to the shell. [`Request`], [`Options::complete`] and [`Script`] are
-//! for a program that answers it by itself.
+//! [`Options::from_env`] responds to the shell. [`Request`], [`Options::complete`] and [`Script`]
+//! are for a program that answers it by itself.
 //!
 //! In the other examples `rt` is a reference to the runtime that `main` gets, `alloc` is
-//! `rt.alloc()`, and `options` is an [`Options`] of the declaration that [`declare!`](crate::declare)
-//! shows, with its keys. They belong in a function that returns a `std::io::Result`.
+//! `rt.alloc()`, and `options` is an [`Options`] of the declaration that
+//! [`declare!`](crate::declare) shows, with its keys. They belong in a function that returns a
+//! `std::io::Result`.
 #![tactic(auto)]
 
 pub mod answer;

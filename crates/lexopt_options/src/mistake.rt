@@ -109,8 +109,8 @@ pub enum Mistake<'a> {
     /// declaration. In a whole line, no positional is missing then, and each accepts its words;
     /// [`Options::read_leading`](crate::Options::read_leading) ignores the positionals.
     MissingOption(Names<'a>),
-    /// No word comes after the general options, where the name of a command has to be. These are all
-    /// declared names, those that ask for the help among them. Only a line of a program with
+    /// No word comes after the general options, where the name of a command has to be. These are
+    /// all declared names, those that ask for the help among them. Only a line of a program with
     /// commands (`Commands` of `lexopt_commands`) has this mistake.
     MissingCommand(Vec<&'a str>),
     /// The first word after the general options, or after a name that asks for the help, is not the

@@ -1,5 +1,5 @@
-//! The result of reading a line, and a line that was refused. `read.rt` of `lexopt_commands` has the
-//! result for a line with commands.
+//! The result of reading a line, and a line that was refused. `read.rt` of `lexopt_commands` has
+//! the result for a line with commands.
 use crate::mistake::Mistake;
 use crate::parsed::{Asked, Parsed};
 use lexopt_declaration::declaration::Names;

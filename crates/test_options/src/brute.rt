@@ -1,5 +1,5 @@
-//! Tests of declared options by brute force. Lines of at most three of thirteen words are read by the
-//! library and by a plain reader, which is written from the rules alone. The spellings that are
+//! Tests of declared options by brute force. Lines of at most three of thirteen words are read by
+//! the library and by a plain reader, which is written from the rules alone. The spellings that are
 //! offered are compared with the lines that the plain reader finds to be legal.
 
 mod ends;
