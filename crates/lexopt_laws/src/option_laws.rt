@@ -36,8 +36,8 @@ pub fn each_line_means_something_or_stops()
         → Means d words l → StopsAt d words k m → ⊥ }
 {}
 
-/// All words that begin with what was typed, are longer, and are not options have at most one role
-/// where they are typed: each is a value of the same option, or a positional after as many others.
+/// At most one role is that of every word that begins with what was typed, is longer, and is not an
+/// option: a value of one and the same option, or a positional after as many others.
 pub fn each_place_has_one_role()
     ensures { (d : Declaration) (words : List (List ℕ)) (typed : List ℕ) (r s : Option Role)
         → HasRole d words typed r → HasRole d words typed s → r ≡ s }
