@@ -24,7 +24,7 @@ pub struct Command<'a, C> {
     /// Its name.
     pub name: &'a str,
     /// Its help text. The help wraps it at spaces, of which several count as one. Shells show it as
-    /// it is, with a space for each control character.
+    /// it is, with a space for each control character of ASCII.
     pub help: &'a str,
     /// What its name does.
     pub runs: Runs<C>,

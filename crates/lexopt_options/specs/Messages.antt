@@ -41,7 +41,7 @@ message (MissingCommand names) =
     codes "missing command: one of " ++ list_text (map (λ name. escaped_text name.now) names.items)
 message (UnknownCommand word rest hints) = codes "unknown command " ++ (visible word
     ++ hint_text [] (map (λ hint. hint.now) hints.items))
-message (InvalidVariable name) = codes "invalid value of " ++ (string_bytes name
+message (InvalidVariable name) = codes "invalid value of " ++ (escaped_text (string_bytes name)
     ++ (codes ": one of bash_source, bash_complete, zsh_source, zsh_complete, fish_source, "
     ++ codes "fish_complete"))
 

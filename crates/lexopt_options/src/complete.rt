@@ -62,7 +62,7 @@ pub struct Completion<'a, F, V = Infallible, M = Infallible, S = Infallible> {
     /// whichever it is; `None` if no such word can come.
     pub word: Option<Role<'a, F, V, M, S>>,
     /// If that word would be a positional: the indices of the declared positionals that it can
-    /// belong to, whether or not more words come after it.
+    /// belong to, by the number of positionals before it, whether or not more words come after it.
     pub arguments: Vec<usize>,
     /// The option whose value is typed in the word itself, where an option can come: `output` if
     /// `--output=` or `-ofi` was typed.

@@ -138,29 +138,30 @@ macro_rules! declare {
             help: $help,
             hidden: false $(|| $crate::declare!(@is_hidden $mark))*,
             required: false $(|| $crate::declare!(@is_required $mark))*,
-            words: $crate::declare!(@words $crate::Words::Files, $(.$mark $marked)*),
+            words: $crate::declare!(@option_words $crate::Words::Files, $(.$mark $marked)*),
         }
     };
     (@is_hidden hidden) => { true };
     (@is_hidden $mark:ident) => { false };
     (@is_required required) => { true };
     (@is_required $mark:ident) => { false };
+    (@option_words $words:expr,) => { $words };
+    (@option_words $words:expr, .hidden() $($mark:tt)*) => {
+        $crate::declare!(@option_words $words, $($mark)*)
+    };
+    (@option_words $words:expr, .required() $($mark:tt)*) => {
+        $crate::declare!(@option_words $words, $($mark)*)
+    };
+    (@option_words $words:expr, .$limit:ident $limited:tt $($mark:tt)*) => {
+        $crate::declare!(@option_words $crate::declare!(@$limit $limited), $($mark)*)
+    };
     (@words $words:expr,) => { $words };
-    (@words $words:expr, .hidden() $($mark:tt)*) => {
-        $crate::declare!(@words $words, $($mark)*)
+    (@words $words:expr, .$limit:ident $limited:tt $($mark:tt)*) => {
+        $crate::declare!(@words $crate::declare!(@$limit $limited), $($mark)*)
     };
-    (@words $words:expr, .required() $($mark:tt)*) => {
-        $crate::declare!(@words $words, $($mark)*)
-    };
-    (@words $words:expr, .directories() $($mark:tt)*) => {
-        $crate::declare!(@words $crate::Words::Directories, $($mark)*)
-    };
-    (@words $words:expr, .text() $($mark:tt)*) => {
-        $crate::declare!(@words $crate::Words::Text, $($mark)*)
-    };
-    (@words $words:expr, .one_of($values:expr $(,)?) $($mark:tt)*) => {
-        $crate::declare!(@words $crate::Words::Listed($values), $($mark)*)
-    };
+    (@directories()) => { $crate::Words::Directories };
+    (@text()) => { $crate::Words::Text };
+    (@one_of($values:expr $(,)?)) => { $crate::Words::Listed($values) };
     (@once) => { $crate::Count::Once };
     (@at_most_once) => { $crate::Count::AtMostOnce };
     (@any_number) => { $crate::Count::AnyNumber };

@@ -197,11 +197,14 @@ impl fmt::Display for Mistake<'_> {
                 write!(f, "unknown command {command}")?;
                 write_hints("", hints, f)
             }
-            Mistake::InvalidVariable(name) => write!(
-                f,
-                "invalid value of {name}: one of bash_source, bash_complete, zsh_source, \
-                zsh_complete, fish_source, fish_complete"
-            ),
+            Mistake::InvalidVariable(name) => {
+                let name = Escaped(name.as_str());
+                write!(
+                    f,
+                    "invalid value of {name}: one of bash_source, bash_complete, zsh_source, \
+                    zsh_complete, fish_source, fish_complete"
+                )
+            }
         }
     }
 }

@@ -112,7 +112,8 @@ mistake_line (mistake.MissingCommand names) =
     codes "missing command: one of " ++ list_text (map (λ name. printed_text name.now) names.items)
 mistake_line (mistake.UnknownCommand word rest hints) = codes "unknown command " ++ (visible word
     ++ hints_line [] (map (λ hint. hint.now) hints.items))
-mistake_line (mistake.InvalidVariable name) = codes "invalid value of " ++ (string_bytes name
+mistake_line (mistake.InvalidVariable name) = codes "invalid value of "
+    ++ (printed_text (string_bytes name)
     ++ (codes ": one of bash_source, bash_complete, zsh_source, zsh_complete, fish_source, "
     ++ codes "fish_complete"))
 
