@@ -700,8 +700,8 @@ impl Parser {
         self.words.left()
     }
 
-    /// Returns whether the separator `--` has been read. If it has, [`Parser::advance`] reads each word
-    /// that is left as a positional.
+    /// Returns whether the separator `--` has been read. If it has, [`Parser::advance`] reads each
+    /// word that is left as a positional.
     ///
     /// It is for libraries that build on the parser.
     ///
@@ -726,8 +726,8 @@ impl Parser {
     /// # Examples
     ///
     /// ```rust
-    /// // After `advance` returned `Found::Short('o')`, this is `true` for `-o=x` if `short_equals` is
-    /// // on, and `false` for `-ox` and `-o x`.
+    /// // After `advance` returned `Found::Short('o')`, this is `true` for `-o=x` if `short_equals`
+    /// // is on, and `false` for `-ox` and `-o x`.
     /// let is_joined = parser.has_joined_value();
     /// ```
     pub fn has_joined_value(&self) -> bool

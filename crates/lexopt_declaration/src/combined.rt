@@ -50,8 +50,8 @@ impl<'a, F: Copy, V: Copy, P, M: Copy, S: Copy> Combined<'a, F, V, P, M, S> {
     /// Returns the declaration with its own options, and then those of each group, in order.
     ///
     /// The prover computes for statics and constants that all of this can be declared together. So
-    /// `rt check` refuses a program with a faulty declaration. If an option is at fault, the message
-    /// of `rt check` has its index among all options, counted from 0, and the reason.
+    /// `rt check` refuses a program with a faulty declaration. If an option is at fault, the
+    /// message of `rt check` has its index among all options, counted from 0, and the reason.
     ///
     /// # Errors
     ///

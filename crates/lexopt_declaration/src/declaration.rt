@@ -186,7 +186,7 @@ pub struct Declared<'a, F, V = Infallible, M = Infallible, S = Infallible> {
     /// version.
     pub kind: Kind<'a, F, V, M, S>,
     /// Its help text. The help wraps it at spaces, of which several count as one. Shells show it as
-    /// it is, with a space for each control character.
+    /// it is, with a space for each control character of ASCII.
     pub help: &'a str,
     /// Whether the help and its usage line leave it out, shells do not offer its names, and no hint
     /// has its long name. Lines may have it all the same.
@@ -772,8 +772,8 @@ pub struct Declaration<'a, F, V = Infallible, P = Infallible, M = Infallible, S 
     /// have this name, whatever the name is by which the program is called. It should have only
     /// ASCII letters, digits, `-`, `_`, `.` and `+`, since the scripts have it unquoted and in
     /// names of functions. Nothing checks that. In the declaration of a command it is the name of
-    /// the command, such as `add`. `Options::with_program` of `lexopt_options` puts the path by which
-    /// the command was reached in its place, such as `git add`.
+    /// the command, such as `add`. `Options::with_program` of `lexopt_options` puts the path by
+    /// which the command was reached in its place, such as `git add`.
     pub program: &'a str,
     /// What the program does, in a sentence or two; maybe the empty text.
     pub about: &'a str,

@@ -76,7 +76,8 @@ fn add_spellings<'a, F, V, M, S>(
     Ok(())
 }
 
-/// Returns those spellings of options that are not hidden which begin with what was typed, in order.
+/// Returns those spellings of options that are not hidden which begin with what was typed, in
+/// order.
 ///
 /// # Errors
 ///

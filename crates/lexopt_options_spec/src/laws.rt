@@ -14,9 +14,9 @@ ghost use Rattle.lexopt_options_spec.specs.Help.{line_feed};
 ghost use Rattle.lexopt_options_spec.specs.Help.{usage_column};
 
 /// The prover computes the first fault of the options that `Options::new` is given. If the names of
-/// the options are text, as each `char` and each `&str` is, it finds none if and only if the options
-/// can be declared together, and otherwise it finds the first option that cannot be declared after
-/// those before it, and the reason.
+/// the options are text, as each `char` and each `&str` is, it finds none if and only if the
+/// options can be declared together, and otherwise it finds the first option that cannot be
+/// declared after those before it, and the reason.
 pub fn declarable_options_are_sound()
     ensures sound { (options : List Declared) → AreText options → first_fault options ≡ None
         → is_sound options ≡ true }
