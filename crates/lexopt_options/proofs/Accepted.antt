@@ -7,9 +7,10 @@ use Rattle.std.specs.Borrow.{Bor}
 use Rattle.std.proofs.lemmas.Bool.{false≢true}
 use Rattle.std.proofs.lemmas.List.Quantifiers.{position-Some}
 use Rattle.std.proofs.lemmas.Option.{slice_get-map, slice_get-get_or}
+use Rattle.lexopt_options_spec.specs.Completion.{list_of}
 use Rattle.lexopt_options_spec.specs.Declaration as spec
 use Rattle.lexopt_options_spec.specs.Legal as legal
-use Rattle.lexopt_options_spec.specs.Legal.{accepts_at, refused_value}
+use Rattle.lexopt_options_spec.specs.Legal.{refused_value}
 use Rattle.lexopt_declaration.specs.declared.declaration.Declared.{Declared}
 use Rattle.lexopt_declaration.specs.declared.declaration.Words.{Words}
 use Rattle.lexopt_declaration.specs.declared.declaration.Words.TheVariants as variant
@@ -28,6 +29,13 @@ pub accepts_any : (words : Words) → (words ≡ variant.Files) ⊎ ((words ≡ 
 accepts_any words (inl is) value = ap (λ w. spec.accepts (words_view w) value) is
 accepts_any words (inr (inl is)) value = ap (λ w. spec.accepts (words_view w) value) is
 accepts_any words (inr (inr is)) value = ap (λ w. spec.accepts (words_view w) value) is
+
+-- only a list refuses a value
+pub refused_list : (words : spec.Words) (value : List ℕ) → spec.accepts words value ≡ false → words ≡ spec.listed (list_of words)
+refused_list spec.files value is = absurd (false≢true (sym is))
+refused_list spec.directories value is = absurd (false≢true (sym is))
+refused_list spec.text value is = absurd (false≢true (sym is))
+refused_list (spec.listed values) value is = refl
 
 none_never : (values : List (List ℕ)) → position (λ (v : List ℕ). false) values ≡ None
 none_never [] = refl
@@ -66,15 +74,6 @@ none_is (Some i) false is = refl
 pub viewed : {F V M S : Type 0} (options : List (Declared F V M S)) (i : ℕ) (o : Declared F V M S) → i < length options → o ≡ get_or options i o → slice_get (map option_view options) i ≡ Some (option_view o)
 viewed options i o within is = view_at options i (Some o) (at_place options i o within is)
 
--- one value
-pub accepts_one : {F V M S : Type 0} (options : List (Declared F V M S)) (i : ℕ) (o : Declared F V M S) (value : List ℕ) → slice_get options i ≡ Some o
-    → accepts_at (map option_view options) i value ≡ spec.accepts (words_view o.words) value
-accepts_one options i o value at = ap (λ x. unwrap_or (option_map (λ p. spec.accepts p.words value) x) true) (view_at options i (Some o) at)
-
-pub one_accepted : {F V M S : Type 0} (options : List (Declared F V M S)) (i : ℕ) (o : Declared F V M S) (value : List ℕ) → slice_get options i ≡ Some o
-    → is_none (refused_value (map option_view options) (legal.option i (Some value))) ≡ spec.accepts (words_view o.words) value
-one_accepted options i o value at = none_cond (accepts_at (map option_view options) i value) value ∙ accepts_one options i o value at
-
 -- one value is accepted or not
 pub value_accepted : (options : List spec.Declared) (i : ℕ) (o : spec.Declared) (value : List ℕ) → slice_get options i ≡ Some o → spec.accepts o.words value ≡ true
     → refused_value options (legal.option i (Some value)) ≡ None
@@ -103,12 +102,6 @@ any_accepted (spec.listed own) (v ∷ values) all = go (position (λ value. not 
     go (Some i) is =
         let at = position-Some (λ value. not (spec.accepts (spec.listed own) value)) (v ∷ values) i v is in
         absurd (false≢true (sym (ap not (all (get_or (v ∷ values) i v))) ∙ at.1))
-
-pub none_refused : {F V M S : Type 0} (options : List (Declared F V M S)) (i : ℕ) (values : List (List ℕ)) → slice_get options i ≡ None
-    → is_none (refused_value (map option_view options) (legal.several i values)) ≡ true
-none_refused options i values at =
-    first_there (λ value. not (accepts_at (map option_view options) i value)) values
-    ∙ ap is_none (ap (λ x. position (λ (value : List ℕ). not (unwrap_or (option_map (λ p. spec.accepts p.words value) x) true)) values) (view_at options i None at) ∙ none_never values)
 
 not_true : (b : Bool) → not b ≡ true → b ≡ false
 not_true true is = absurd (false≢true is)

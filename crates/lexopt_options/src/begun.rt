@@ -72,10 +72,11 @@ impl<F, V, M, S> Options<'_, F, V, Infallible, M, S> {
         ensures { IfOk result (λ found.
             IsLeadingCompletion self.now words.items typed.now found) }
     {
+        let count = words.len();
         let mut parser = self.parser_of(words);
         match read_front(alloc, &mut parser, self)? {
             Begun::Rest(word) => {
-                let rest = words_from(alloc, &mut parser, word)?;
+                let rest = words_from(alloc, &mut parser, word, count)?;
                 Ok(LeadingCompletion::Rest(rest))
             }
             Begun::Front(front, can_come_first) => {

@@ -92,24 +92,23 @@ fn add_left(words: &mut Vec<OsString>, left: &mut RawArgs<'_>) -> Result<(), All
     Ok(())
 }
 
-// A word that was read, and the words after it.
+// A word that was read, and the words after it, in a list that has room for `room` words from the
+// start.
 pub(crate) fn words_from(
     alloc: Global,
     parser: &mut Parser,
     word: OsString,
+    room: usize,
 ) -> Result<Vec<OsString>, AllocError>
     requires { pending parser.old ≡ None }
     ensures { IfOk result (λ words. words.items ≡ word ∷ parser.old.words) }
 {
-    match parser.try_raw_args() {
-        Some(mut left) => {
-            let mut words = Vec::with_capacity(alloc, left.as_slice().len().saturating_add(1))?;
-            words.push(word)?;
-            add_left(&mut words, &mut left)?;
-            Ok(words)
-        }
-        None => unreachable!(),
+    let mut words = Vec::with_capacity(alloc, room)?;
+    words.push(word)?;
+    if let Some(mut left) = parser.try_raw_args() {
+        add_left(&mut words, &mut left)?;
     }
+    Ok(words)
 }
 
 // Reads the leading options of a line by keys.
@@ -120,9 +119,9 @@ fn read_options<'a, F: Copy, V: Copy, P: Copy, M: Copy, S: Copy>(
 ) -> Result<Leading<'a, F, V, P, M, S>, AllocError>
     ensures { IfOk result (λ leading. IsLeadingRead options.now words.items leading) }
 {
-    let room = words.len().min(FIRST_ROOM);
+    let count = words.len();
     let mut parser = options.parser_of(words);
-    let read = read_keys(alloc, &mut parser, options, Some(0), room)?;
+    let read = read_keys(alloc, &mut parser, options, Some(0), count.min(FIRST_ROOM))?;
     let Read {
         parsed,
         seen,
@@ -132,7 +131,7 @@ fn read_options<'a, F: Copy, V: Copy, P: Copy, M: Copy, S: Copy>(
     match ended {
         Ended::End => Ok(end(options, parsed, &seen, Vec::new(alloc))),
         Ended::Positional(word) => {
-            let rest = words_from(alloc, &mut parser, word)?;
+            let rest = words_from(alloc, &mut parser, word, count)?;
             Ok(end(options, parsed, &seen, rest))
         }
         Ended::Asked(asked) => Ok(Leading::Asked(asked)),

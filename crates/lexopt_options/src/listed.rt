@@ -3,6 +3,8 @@ ghost use Rattle.std.specs.Prelude.{◌≡◌, false, not, position};
 ghost use Rattle.std.specs.Cmp.Lexicographic.{pointwise};
 ghost use Rattle.std.specs.Prelude.{◌==◌};
 ghost use Rattle.std.specs.List.{list_any};
+ghost use Rattle.std.specs.Prelude.{map};
+ghost use Rattle.lexopt_options_spec.specs.Completion.{list_of};
 ghost use Rattle.lexopt_options_spec.specs.Declaration as spec;
 ghost use Rattle.lexopt_declaration.specs.Models.{words_view};
 ghost use Rattle.lexopt_options.specs.Reading.{IsInvalidValue};
@@ -41,6 +43,16 @@ pub fn refused_place(words: Words<'_>, values: &[OsString]) -> Option<usize>
     }
 }
 
+// The values of a list; none if there is no list.
+fn list_of(words: Words<'_>) -> &[&str]
+    ensures { map (λ own. own.now) result.now ≡ list_of (words_view words.entry) }
+{
+    match words {
+        Words::Listed(values) => values,
+        Words::Files | Words::Directories | Words::Text => &[],
+    }
+}
+
 /// The mistake that a value is not in the list of an option.
 pub fn invalid_value<'a, F, V, M, S>(
     option: &'a Declared<'a, F, V, M, S>,
@@ -49,12 +61,9 @@ pub fn invalid_value<'a, F, V, M, S>(
     requires { spec.accepts (words_view option.now.words) value ≡ false }
     ensures { IsInvalidValue option.now value result }
 {
-    match option.words {
-        Words::Listed(values) => Mistake::InvalidValue {
-            option: option.names,
-            value,
-            values,
-        },
-        Words::Files | Words::Directories | Words::Text => unreachable!(),
+    Mistake::InvalidValue {
+        option: option.names,
+        value,
+        values: list_of(option.words),
     }
 }
