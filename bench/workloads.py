@@ -58,9 +58,6 @@ OF_ERRORS = (
     "An `Error` has room for its cause, some 300 bytes. The function with the loop has at least one of them, and zeroes it once "
     "for each line."
 )
-OF_LINES = (
-    "A `Line` has room for a mistake and what is printed of it, some 170 bytes, which are zeroed and copied once for each line."
-)
 OF_EMPTY_WORDS = (
     "A word that is taken leaves an empty word in its place, which is written, and dropped at the end. This costs some 10 "
     "instructions. The owning iterator of a `Vec` would leave no word, but that of Rattle's std cannot lend the unread words as "
@@ -157,7 +154,7 @@ WORKLOADS = [
         repeated([b""]),
         times=100,
         is_declared=True,
-        bounds={"next": (1.2, OF_ERRORS), "parsed": (1.1, OF_LINES)},
+        bounds={"next": (1.2, OF_ERRORS)},
     ),
     Workload("{size} positionals, by `from_args`", 10_000, repeated([b"file.txt"]), work="collected"),
     Workload(

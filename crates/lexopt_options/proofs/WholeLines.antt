@@ -1,19 +1,23 @@
 -- What the reading of a whole line means.
-use Rattle.std.proofs.Common.{append-nil, append_assoc, ◌≡◌, ◌≤◌, ◌<◌, ◌-◌, ℕ, suc, length, take, arith, true, List, [], ◌∷◌, ◌++◌, refl, sym, ap, subst, ◌∙◌}
+use Rattle.std.proofs.Common.{append-nil, append_assoc, ◌≡◌, ◌≤◌, ◌<◌, ◌-◌, ℕ, suc, length, take, arith, true, false, List, [], ◌∷◌, ◌++◌, refl, sym, ap, subst, ◌∙◌}
+use Rattle.std.specs.List.{list_any}
+use Rattle.std.proofs.lemmas.Bool.{false≢true}
 use Rattle.lexopt_spec.specs.UnreadLine.{UnreadLine}
 use Rattle.lexopt_spec.specs.Steps as steps
 use Rattle.lexopt_spec.specs.Steps.{Next}
 use Rattle.lexopt_line_spec.specs.Readings.{IsReading, start}
+use Rattle.lexopt_line_spec.specs.Spelling as spelling
 use Rattle.lexopt_line_spec.proofs.ItemsRead.{says_items}
 use Rattle.lexopt_line_spec.proofs.ReadingSteps.{reads_last}
 use Rattle.lexopt_options_spec.specs.Declaration.{Declaration, is_sound, table}
 use Rattle.lexopt_options_spec.specs.Legal as legal
-use Rattle.lexopt_options_spec.specs.Legal.{Means, MeansFront, are_accepted, positional_count, positional_words}
+use Rattle.lexopt_options_spec.specs.Legal.{Means, MeansFront, are_accepted, most, positional_count, positional_words}
 use Rattle.lexopt_options_spec.specs.Places.{AreTaken, IsNotTaken, least}
-use Rattle.lexopt_options_spec.proofs.Taken.{words_count}
+use Rattle.lexopt_options_spec.proofs.Shares.{some_places}
+use Rattle.lexopt_options_spec.proofs.Taken.{words_count, zero_within}
 use Rattle.lexopt_options_spec.specs.Stops as stops
 use Rattle.lexopt_options_spec.specs.Asking.{all_but_last, first_asked}
-use Rattle.lexopt_options_spec.specs.Stops.{ReadsUpTo, Stops, StopsAt, required_placeholder}
+use Rattle.lexopt_options_spec.specs.Stops.{ReadsUpTo, Stops, required_placeholder}
 use Rattle.lexopt_options_spec.proofs.Fronts.{front_later, front_parsed, nothing_parsed, one_front}
 use Rattle.std.specs.Borrow.{Bor}
 use Rattle.lexopt_declaration.specs.declared.declaration.Names.{Names}
@@ -23,13 +27,16 @@ use Rattle.lexopt_options.specs.declared.options.Options.{Options}
 use Rattle.lexopt_options.specs.declared.refused.Line.{Line}
 use Rattle.lexopt_options.specs.declared.refused.Line.TheVariants as line
 use Rattle.lexopt_declaration.specs.declared.declaration.Declared as declared
-use Rattle.lexopt_options.specs.Declarations.{declaration_of}
+use Rattle.lexopt_options.specs.Declarations.{declaration_of, options_of, positionals_of}
 use Rattle.lexopt_options.specs.declared.parsed.Parsed.{Parsed}
 use Rattle.lexopt_options.specs.Keys.{AreParsedAs, asked_view}
 use Rattle.lexopt_options.proofs.Keys.{asked_here}
-use Rattle.lexopt_options.specs.Lines.{IsLineOf, IsLineRead}
+use Rattle.lexopt_options.specs.Lines.{IsLineOf, IsLineRead, LineMeans}
 use Rattle.lexopt_options.specs.Mistakes.{AreNames, IsMistake}
 use Rattle.lexopt_options.specs.Reading.{AreSeen, IsFirstUnseen, IsRight, IsWrong}
+use Rattle.lexopt_options.specs.Taken.{has_list}
+use Rattle.lexopt_options.proofs.Seen.{none_required}
+use Rattle.lexopt_options.proofs.TakenWords.{all_taken}
 
 -- words that are read to the end of the line mean what was read
 front : (d : Declaration) (words : List (List ℕ)) (l : List legal.Parsed) (v w : UnreadLine) → is_sound d.options ≡ true → ReadsUpTo d (start d.short_equals words) l v → Next v steps.end w
@@ -52,6 +59,27 @@ line_parsed d words l v w own seen sound read words_are are_seen ends right acce
   accepted = accepted;
   taken = subst (AreTaken d.positionals) (sym words_are) right.taken;
 }
+
+-- no words mean the empty list, if nothing has to be in a line
+pub no_words : {F V P M S : Type 0} (o : Options F V P M S) (parsed : List (Parsed F V P M S)) → parsed ≡ [] → least (declaration_of o).positionals ≤ 0
+    → list_any (λ p. has_list p) (positionals_of o) ≡ false → list_any (λ p. p.required) (options_of o) ≡ false → LineMeans o [] parsed
+no_words o parsed none few lists required =
+    let d = declaration_of o in
+    let within = zero_within (most d.positionals) in
+    let are = (some_places d.positionals 0 within).1 in
+    subst (LineMeans o []) (sym none) (
+      [],
+      record {
+        front = record { items = []; spelled = spelling.no_words; parsed = refl; within = within };
+        enough = few;
+        complete = λ i is. absurd (false≢true (sym (none_required (options_of o) i required) ∙ is));
+        accepted = refl;
+        taken = all_taken (positionals_of o) [] lists within;
+      },
+      refl,
+      tt,
+      record { places = []; are_places = record { shares = are.shares; are_shares = are.are_shares; placed = refl }; have = tt },
+    )
 
 -- ---- what is wrong at the end
 

@@ -602,6 +602,10 @@ impl<'a, F: Copy, V: Copy, P: Copy, M: Copy, S: Copy> Options<'a, F, V, P, M, S>
         ensures answered { (l : List legal.Parsed) → Means (declaration_of self.now) words.items l
             → IfOk result (λ line. IsLineOf self.now l line) }
     {
+        // Without words there is nothing to read, so no parser is made.
+        if words.is_empty() && is_complete(self, 0) {
+            return Ok(Line::Parsed(Vec::new(alloc)));
+        }
         read_line(alloc, self, words)
     }
 }
