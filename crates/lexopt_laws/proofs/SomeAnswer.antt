@@ -7,7 +7,7 @@ use Rattle.lexopt_spec.specs.Steps as steps
 use Rattle.lexopt_spec.specs.Steps.{Reply, Next, NextStep, ValueStep, pending_value, takes_word, nothing_to_take, OptionalStep, optional_pending, optional_none}
 use Rattle.lexopt_spec.specs.Views.{ValuesStep, no_values, some_values}
 use Rattle.lexopt_spec.specs.Runs as calls
-use Rattle.lexopt_spec.specs.Runs.{Call, next, value, Step, StepWithMemory}
+use Rattle.lexopt_spec.specs.Runs.{Call, next, value, Step}
 use Rattle.lexopt_line_spec.specs.Bound.{bound}
 use Rattle.lexopt_line_spec.specs.Table as spec
 use Rattle.lexopt_line_spec.specs.Table.{Item, Name, short, long, Kind, flag, one, optional, several, kind, Table}

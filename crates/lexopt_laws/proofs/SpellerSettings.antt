@@ -11,7 +11,7 @@ use lib.Utf8.{scalar}
 use Rattle.lexopt_spec.specs.UnreadLine.{dash, equals, BeginsWith, IsPlain, is_plain}
 use Rattle.lexopt_line_spec.specs.Table.{Name, short, long, Item, option, many, positional, Kind, flag, one, optional, several, kind, Table}
 use Rattle.lexopt_line_spec.specs.Spelling as spelling
-use Rattle.lexopt_line_spec.specs.Spelling.{exact, After, nothing, attached, joined, NoValue, no_value, OneValue, attached_value, joined_value, next_word, OptionalValue, no_optional, attached_optional, joined_optional, joined_several, attached_several, several_words, Completes, IsAfterLast, nothing_more, a_value, marked_value, Cluster, flag_first, last_option, IsLong, name_alone, name_and_value, Group, cluster, Line, no_words, plain_word, group, separator, Spells}
+use Rattle.lexopt_line_spec.specs.Spelling.{exact, After, nothing, attached, joined, NoValue, no_value, attached_value, joined_value, next_word, OptionalValue, no_optional, attached_optional, joined_optional, joined_several, attached_several, several_words, Completes, IsAfterLast, nothing_more, a_value, marked_value, Cluster, flag_first, last_option, IsLong, name_alone, name_and_value, Group, cluster, Line, no_words, plain_word, group, separator, Spells}
 use Rattle.lexopt_line_spec.specs.Speller.{SpelledAs, Reason, Place, after_values, open_line}
 use Rattle.lexopt_line_spec.proofs.SpellerFaults.{shown_as}
 use Rattle.lexopt_line_spec.proofs.SpellerTables.{short_form, short_many_form, Added, short_added, adds, separator_comes_too_early, separator_is_due, with_rest, with_rests, spelled_from, words_or_fault, spelled}

@@ -10,7 +10,7 @@ use Rattle.lexopt_spec.specs.Pieces.{replacement}
 use Rattle.lexopt_spec.specs.UnreadLine.{dash, equals, BeginsWith, IsPlain}
 use Rattle.lexopt_line_spec.specs.Table.{Item, Table}
 use Rattle.lexopt_line_spec.specs.Spelling as spelling
-use Rattle.lexopt_line_spec.specs.Spelling.{exact, damaged, After, nothing, attached, joined, Completes, BeginsWithMark, IsAfterLast, a_value, Cluster, flag_first, last_option, Group, cluster, Line, no_words, plain_word, group, IsLong, name_alone, name_and_value, Shows}
+use Rattle.lexopt_line_spec.specs.Spelling.{exact, damaged, After, Cluster, flag_first, last_option, Group, cluster, Line, no_words, plain_word, group, IsLong, name_alone, name_and_value}
 use Rattle.lexopt_spec.proofs.PlainFronts.{plain_passes}
 use Rattle.lexopt_spec.proofs.Fronts.{decoded_is_first}
 

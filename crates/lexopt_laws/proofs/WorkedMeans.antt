@@ -1,7 +1,7 @@
 -- What short lines mean.
 use Rattle.std.proofs.Common.{◌≡◌, ◌≤◌, ℕ, true, List, [], ◌∷◌, map, Some, None, codes, refl, sym, subst, lit≤}
 use Rattle.lexopt_line_spec.specs.Table as spec
-use Rattle.lexopt_line_spec.specs.Table.{Item, kind}
+use Rattle.lexopt_line_spec.specs.Table.{Item}
 use Rattle.lexopt_line_spec.specs.Spelling.{Spells}
 use Rattle.lexopt_line_spec.specs.Spelling.{no_words}
 use Rattle.lexopt_line_spec.proofs.Worked.{plain_line}

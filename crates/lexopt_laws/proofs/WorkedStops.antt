@@ -5,7 +5,7 @@ use Rattle.lexopt_spec.specs.Steps as steps
 use Rattle.lexopt_spec.specs.Steps.{Next, Value}
 use Rattle.lexopt_spec.specs.Runs.{next, value}
 use Rattle.lexopt_line_spec.specs.Table as spec
-use Rattle.lexopt_line_spec.specs.Table.{Item, Name, flag, one, kind}
+use Rattle.lexopt_line_spec.specs.Table.{Name, flag, one, kind}
 use Rattle.lexopt_line_spec.specs.Readings.{first_flag, first_one, first_positional, option_reply, start}
 use Rattle.lexopt_line_spec.proofs.RunAccounts.{step_line}
 use Rattle.lexopt_options_spec.specs.Declaration.{Declaration, table}

@@ -3,7 +3,7 @@ use Rattle.std.proofs.Math.Seq.{take-nil}
 use Rattle.std.proofs.Common.{◌≤◌, ℕ, zero, suc, List, [], ◌∷◌, take, sym, subst, arith}
 use Rattle.lexopt_options_spec.specs.Asking.{all_but_last, parsed_before}
 use Rattle.lexopt_options_spec.specs.Legal as legal
-use Rattle.lexopt_options_spec.specs.Legal.{IsWithin, counts, most, positional_count}
+use Rattle.lexopt_options_spec.specs.Legal.{IsWithin, most, positional_count}
 use Rattle.lexopt_options_spec.specs.Stops as stops
 use Rattle.lexopt_declaration.specs.declared.declaration.Positional.{Positional}
 use Rattle.lexopt_options.specs.declared.options.Options.{Options}

@@ -13,7 +13,7 @@ use Rattle.lexopt_options_spec.specs.Legal as legal
 use Rattle.lexopt_options_spec.proofs.Listed.{accepted_append}
 use Rattle.lexopt_options_spec.proofs.Fronts.{nothing_read}
 use Rattle.lexopt_options_spec.specs.Legal.{IsWithin, are_accepted, counts, is_required, occurs, positional_count, refused_value}
-use Rattle.lexopt_options_spec.specs.Stops.{ReadsUpTo, Stops}
+use Rattle.lexopt_options_spec.specs.Stops.{Stops}
 use Rattle.lexopt_declaration.specs.declared.declaration.Declared.{Declared}
 use Rattle.lexopt_line_spec.specs.Readings.{option_reply, start}
 use Rattle.lexopt_line_spec.specs.Table.{Name}

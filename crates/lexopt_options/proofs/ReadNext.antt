@@ -6,7 +6,7 @@ use Rattle.lexopt_spec.specs.Steps as steps
 use Rattle.lexopt_spec.specs.Steps.{Next, NextStep, OptionalStep, optional_pending, optional_none, ReadsPositional, no_word_left, word_left, ReadsWord, no_word, reads_separator, reads_long, reads_cluster, reads_positional, joined_value, equals_value, next_in_cluster, after_separator, next_word}
 use Rattle.lexopt_spec.specs.Runs as calls
 use Rattle.lexopt_line_spec.specs.Table as spec
-use Rattle.lexopt_line_spec.specs.Table.{Item, Name, kind}
+use Rattle.lexopt_line_spec.specs.Table.{Name, kind}
 use Rattle.lexopt_line_spec.specs.Readings.{ReadsFirst, first_positional, first_flag, first_one, first_optional, first_several, option_reply}
 use Rattle.lexopt_line_spec.proofs.ItemsRead.{one_more_item, option_given}
 use Rattle.lexopt_line_spec.proofs.RunAccounts.{step_line}

@@ -5,12 +5,12 @@ use Rattle.std.proofs.lemmas.Bool.{false≢true}
 use Rattle.std.proofs.lemmas.List.{append-nil}
 use Rattle.lexopt_spec.specs.UnreadLine.{no_tail, UnreadLine, IsLine, IsPlain, IsNormalIn, pending, spelling}
 use Rattle.lexopt_spec.specs.Steps as steps
-use Rattle.lexopt_spec.specs.Steps.{Reply, Next, NextStep, no_word_left, word_left, no_word, reads_separator, reads_long, reads_cluster, reads_positional, joined_value, equals_value, next_in_cluster, after_separator, next_word, nothing_to_take}
+use Rattle.lexopt_spec.specs.Steps.{Reply, Next, NextStep, no_word_left, reads_separator, next_word, nothing_to_take}
 use Rattle.lexopt_spec.specs.Views.{ValuesStep}
 use Rattle.lexopt_spec.specs.Runs as calls
 use Rattle.lexopt_spec.specs.Runs.{Step}
 use Rattle.lexopt_line_spec.specs.Table as spec
-use Rattle.lexopt_line_spec.specs.Table.{Item, Name, Table, kind}
+use Rattle.lexopt_line_spec.specs.Table.{Item, Name, kind}
 use Rattle.lexopt_line_spec.specs.Readings.{ReadsFirst, ReadsItems, first_positional, first_one, first_several, option_reply, start, IsDue}
 use Rattle.lexopt_line_spec.proofs.ItemsRead.{one_more_item}
 use Rattle.lexopt_line_spec.proofs.LastOption.{missing_names}

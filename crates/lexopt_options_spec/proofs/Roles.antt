@@ -7,7 +7,7 @@ use Rattle.std.proofs.lemmas.Bool.Decides.{Decides-eqb}
 use Rattle.std.proofs.lemmas.Option.{same_Some}
 use Rattle.std.proofs.lemmas.Slice.Eq.{starts_is}
 use Rattle.lexopt_spec.specs.Pieces.{after_first_piece}
-use Rattle.lexopt_spec.specs.UnreadLine.{dash, equals, no_tail, rest_of, Tail, TailFits, UnreadLine, pending, pending_in, BeginsWith, IsPlain}
+use Rattle.lexopt_spec.specs.UnreadLine.{dash, equals, no_tail, rest_of, Tail, UnreadLine, pending, pending_in, BeginsWith, IsPlain}
 use Rattle.lexopt_spec.specs.UnreadLine as unread
 use Rattle.lexopt_spec.specs.Steps as steps
 use Rattle.lexopt_spec.specs.Steps.{Reply, NextStep, ValueStep, OptionalStep, ReadsShort, alone, with_value, no_word_left, word_left, no_word, reads_separator, reads_long, reads_cluster, reads_positional, joined_value, equals_value, next_in_cluster, after_separator, next_word, pending_value, takes_word, nothing_to_take, optional_pending, optional_none}
@@ -20,7 +20,7 @@ use Rattle.lexopt_line_spec.proofs.ItemsRead.{option_given}
 use Rattle.lexopt_line_spec.proofs.Names.{shorter}
 use Rattle.lexopt_options_spec.specs.Declaration.{Declaration, Declared, index_of}
 use Rattle.lexopt_options_spec.specs.Legal as legal
-use Rattle.lexopt_options_spec.specs.Legal.{Parsed, parsed_item, positional_count, most, IsWithin}
+use Rattle.lexopt_options_spec.specs.Legal.{Parsed, parsed_item}
 use Rattle.lexopt_options_spec.specs.Completion.{EndsWith, Extends, HasRole, Role, role_of}
 use Rattle.lexopt_options_spec.proofs.Cuts.{came_is, enough}
 use Rattle.lexopt_options_spec.proofs.Fronts.{one_front}

@@ -13,7 +13,7 @@ use Rattle.lexopt_options_spec.specs.Legal as legal
 use Rattle.lexopt_options_spec.specs.Legal.{Means}
 use Rattle.lexopt_options_spec.specs.Places.{ArePlaces}
 use Rattle.lexopt_options_spec.specs.Stops as stops
-use Rattle.lexopt_options_spec.specs.Stops.{StopsAt, placeholder_at, required_placeholder}
+use Rattle.lexopt_options_spec.specs.Stops.{StopsAt}
 use Rattle.lexopt_options.specs.Declarations.{declaration_of, options_of, positionals_of}
 use Rattle.lexopt_options.specs.Keys.{IsParsedAs, AreParsedAs, HasKey, HaveKeys, positional_keys}
 use Rattle.lexopt_options.specs.Lines.{IsLineOf, IsLineRead, IsRefused, LineMeans}

@@ -1,7 +1,6 @@
 -- The option to which a key, a role or the names in an error belong, by plain data.
 use Rattle.std.specs.Prelude.{◌≡◌, ◌≢◌, ℕ, Bool, true, false, List, Option, Some, None, option_map}
 use Rattle.std.specs.Prelude.{option_and_then, position, slice_get, Result, Ok, Err, IsUtf8}
-use Rattle.std.specs.Borrow.{Bor}
 use Rattle.std.specs.List.{AllZip}
 use Rattle.anyhow.specs.declared.error.Error.{Error as Cause}
 use Rattle.lexopt_words.specs.Conversions.{IsNotUnicode, IsParsed}

@@ -5,7 +5,6 @@ use Rattle.lexopt_declaration.specs.Models.{positional_view}
 use Rattle.lexopt_options_spec.specs.Asking.{all_but_last}
 use Rattle.lexopt_options_spec.specs.Legal.{IsWithin}
 use Rattle.lexopt_options_spec.specs.Stops as stops
-use Rattle.lexopt_options_spec.specs.Stops.{ReadsUpTo}
 use Rattle.lexopt_options.specs.declared.parsed.ByKey.TheVariants as told
 use Rattle.lexopt_options.specs.Declarations.{declaration_of, options_of, positionals_of}
 use Rattle.lexopt_options.specs.Keys.{AllFirst, AreParsedAs, HasKey, positional_keys}
