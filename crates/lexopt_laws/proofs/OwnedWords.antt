@@ -1,14 +1,15 @@
 -- The positionals that a word can belong to.
-use Rattle.std.proofs.Common.{◌≡◌, ◌<◌, ◌⊎◌, ℕ, zero, suc, List, [], ◌∷◌, take, slice_get, Option, Some, None, refl, sym, ap, subst, ◌∙◌, inl, inr, ⊎_elim, lit≤, lit<, arith}
+use Rattle.std.proofs.Common.{◌≡◌, ◌<◌, ◌⊎◌, ℕ, zero, suc, List, [], ◌∷◌, take, slice_get, Option, Some, None, refl, sym, ap, subst, ◌∙◌, inl, inr, ⊎_elim, lit≤, lit<, arith, codes}
 use Rattle.std.specs.List.{AllZip, Contains}
 use Rattle.std.proofs.lemmas.List.Elements.{Contains-append_right}
 use Rattle.lexopt_line_spec.proofs.Names.{contains_first}
 use Rattle.lexopt_options_spec.specs.Completion.{AreOwners, AreOwnersIn, CanOwn, IsAscending, Role, argument, value}
 use Rattle.lexopt_options_spec.specs.Declaration.{Positional}
-use Rattle.lexopt_options_spec.specs.Places.{CanTake, owners}
+use Rattle.lexopt_options_spec.specs.Places.{CanTake, owners, refused_word}
 use Rattle.lexopt_options_spec.proofs.Offered.{cons_cases}
 use Rattle.lexopt_options_spec.proofs.Shares.{greedy_are_shares}
-use Rattle.lexopt_laws.specs.Sample.{mode, new, old, target}
+use Rattle.lexopt_laws.specs.Sample.{files, mode, mode_in_list, new, old, target}
+use Rattle.lexopt_laws.proofs.WorkedWords.{not_first}
 
 -- ---- there is one list of them
 
@@ -51,33 +52,35 @@ same_list (x ∷ xs) (y ∷ ys) up vp all back = go (same_list xs ys (rest_up x 
         tails later (subst (λ n. IsAscending (n ∷ ys)) is wp) (λ i has. subst (λ n. Contains (n ∷ ys) i) is (all i has)) (λ i has. back i (subst (λ n. Contains (n ∷ ys) i) same has))
         ∙ ap (λ n. n ∷ ys) same
 
-pub one_list : (ps : List Positional) (n : ℕ) (l m : List ℕ) → AreOwners ps n l → AreOwners ps n m → l ≡ m
-one_list ps n l m a b = same_list l m a.in_order b.in_order (λ i has. b.complete i (a.sound i has)) (λ i has. a.complete i (b.sound i has))
+pub one_list : (ps : List Positional) (words : List (List ℕ)) (l m : List ℕ) → AreOwners ps words l → AreOwners ps words m → l ≡ m
+one_list ps words l m a b = same_list l m a.in_order b.in_order (λ i has. b.complete i (a.sound i has)) (λ i has. a.complete i (b.sound i has))
 
 pub one_list_in : (ps : List Positional) (role : Option Role) (l m : List ℕ) → AreOwnersIn ps role l → AreOwnersIn ps role m → l ≡ m
 one_list_in ps None l m a b = a ∙ sym b
 one_list_in ps (Some (value i)) l m a b = a ∙ sym b
-one_list_in ps (Some (argument n)) l m a b = one_list ps n l m a b
+one_list_in ps (Some (argument words)) l m a b = one_list ps words l m a b
 
 -- ---- `OLD NEW`
 
-pub owns_old : CanOwn (old ∷ new ∷ []) 0 0
+pub owns_old : CanOwn (old ∷ new ∷ []) [] 0
 owns_old = record {
   count = 2;
   longer = lit< tt;
   within = lit≤ tt;
   places = 0 ∷ 1 ∷ [];
   are_places = record { shares = 1 ∷ 1 ∷ []; are_shares = greedy_are_shares (old ∷ new ∷ []) 1 (lit≤ tt); placed = refl };
+  none = refl;
   here = refl;
 }
 
-pub owns_new : CanOwn (old ∷ new ∷ []) 0 1
+pub owns_new : CanOwn (old ∷ new ∷ []) [] 1
 owns_new = record {
   count = 1;
   longer = lit< tt;
   within = lit≤ tt;
   places = 1 ∷ [];
   are_places = record { shares = 0 ∷ 1 ∷ []; are_shares = greedy_are_shares (old ∷ new ∷ []) 0 (lit≤ tt); placed = refl };
+  none = refl;
   here = refl;
 }
 
@@ -95,10 +98,10 @@ old_or_new (suc n) i (zero ∷ m ∷ shares) longer each is =
     inr (sym (some_is 1 i (subst (λ m. slice_get (take (suc n) (owners 0 (0 ∷ m ∷ shares))) 0 ≡ Some i) each.1.0 is)))
 old_or_new (suc n) i (suc k ∷ m ∷ shares) longer each is = inl (sym (some_is 0 i is))
 
-pub owners_of_both : AreOwners (old ∷ new ∷ []) 0 (0 ∷ 1 ∷ [])
+pub owners_of_both : AreOwners (old ∷ new ∷ []) [] (0 ∷ 1 ∷ [])
 owners_of_both = record {
-  sound = λ i has. ⊎_elim (λ same. subst (λ n. CanOwn (old ∷ new ∷ []) 0 n) same owns_old)
-      (λ later. ⊎_elim (λ same. subst (λ n. CanOwn (old ∷ new ∷ []) 0 n) same owns_new) (λ no. absurd (none i no)) (cons_cases 1 [] i later)) (cons_cases 0 (1 ∷ []) i has);
+  sound = λ i has. ⊎_elim (λ same. subst (λ n. CanOwn (old ∷ new ∷ []) [] n) same owns_old)
+      (λ later. ⊎_elim (λ same. subst (λ n. CanOwn (old ∷ new ∷ []) [] n) same owns_new) (λ no. absurd (none i no)) (cons_cases 1 [] i later)) (cons_cases 0 (1 ∷ []) i has);
   complete = λ i can. ⊎_elim (λ same. subst (λ n. Contains (0 ∷ 1 ∷ []) n) (sym same) (contains_first 0 (1 ∷ [])))
       (λ same. subst (λ n. Contains (0 ∷ 1 ∷ []) n) (sym same) (there 0 (1 ∷ []) 1 (contains_first 1 [])))
       (old_or_new can.count i can.are_places.shares can.longer can.are_places.are_shares.each (subst (λ l. slice_get l 0 ≡ Some i) can.are_places.placed can.here));
@@ -107,23 +110,25 @@ owners_of_both = record {
 
 -- ---- `MODE [TARGET]`
 
-pub owns_mode : CanOwn (mode ∷ target ∷ []) 0 0
+pub owns_mode : CanOwn (mode ∷ target ∷ []) [] 0
 owns_mode = record {
   count = 1;
   longer = lit< tt;
   within = lit≤ tt;
   places = 0 ∷ [];
   are_places = record { shares = 1 ∷ 0 ∷ []; are_shares = greedy_are_shares (mode ∷ target ∷ []) 0 (lit≤ tt); placed = refl };
+  none = refl;
   here = refl;
 }
 
-pub owns_target : CanOwn (mode ∷ target ∷ []) 1 1
+pub owns_target : CanOwn (mode ∷ target ∷ []) (codes "a" ∷ []) 1
 owns_target = record {
   count = 2;
   longer = lit< tt;
   within = lit≤ tt;
   places = 0 ∷ 1 ∷ [];
   are_places = record { shares = 1 ∷ 1 ∷ []; are_shares = greedy_are_shares (mode ∷ target ∷ []) 1 (lit≤ tt); placed = refl };
+  none = refl;
   here = refl;
 }
 
@@ -144,27 +149,27 @@ second_is_target (suc (suc n)) i (k ∷ suc m ∷ []) longer each is =
     let one : k ≡ 1 = each.0 in sym (some_is 1 i (subst (λ x. slice_get (take (suc (suc n)) (owners 0 (x ∷ suc m ∷ []))) 1 ≡ Some i) one is))
 second_is_target (suc (suc n)) i (k ∷ m ∷ x ∷ shares) longer each is = absurd each.1.1
 
-pub first_owner : (i : ℕ) → CanOwn (mode ∷ target ∷ []) 0 i → i ≡ 0
+pub first_owner : (i : ℕ) → CanOwn (mode ∷ target ∷ []) [] i → i ≡ 0
 first_owner i can =
     first_is_mode can.count i can.are_places.shares can.longer can.are_places.are_shares.each (subst (λ l. slice_get l 0 ≡ Some i) can.are_places.placed can.here)
 
-second_owner : (i : ℕ) → CanOwn (mode ∷ target ∷ []) 1 i → i ≡ 1
+second_owner : (i : ℕ) → CanOwn (mode ∷ target ∷ []) (codes "a" ∷ []) i → i ≡ 1
 second_owner i can =
     second_is_target can.count i can.are_places.shares can.longer can.are_places.are_shares.each (subst (λ l. slice_get l 1 ≡ Some i) can.are_places.placed can.here)
 
-pub not_target : CanOwn (mode ∷ target ∷ []) 0 1 → ⊥
+pub not_target : CanOwn (mode ∷ target ∷ []) [] 1 → ⊥
 not_target can = let same = first_owner 1 can in omega (arith, same)
 
-pub owner_is_mode : AreOwners (mode ∷ target ∷ []) 0 (0 ∷ [])
+pub owner_is_mode : AreOwners (mode ∷ target ∷ []) [] (0 ∷ [])
 owner_is_mode = record {
-  sound = λ i has. ⊎_elim (λ same. subst (λ n. CanOwn (mode ∷ target ∷ []) 0 n) same owns_mode) (λ no. absurd (none i no)) (cons_cases 0 [] i has);
+  sound = λ i has. ⊎_elim (λ same. subst (λ n. CanOwn (mode ∷ target ∷ []) [] n) same owns_mode) (λ no. absurd (none i no)) (cons_cases 0 [] i has);
   complete = λ i can. subst (λ n. Contains (0 ∷ []) n) (sym (first_owner i can)) (contains_first 0 []);
   in_order = tt;
 }
 
-pub owner_is_target : AreOwners (mode ∷ target ∷ []) 1 (1 ∷ [])
+pub owner_is_target : AreOwners (mode ∷ target ∷ []) (codes "a" ∷ []) (1 ∷ [])
 owner_is_target = record {
-  sound = λ i has. ⊎_elim (λ same. subst (λ n. CanOwn (mode ∷ target ∷ []) 1 n) same owns_target) (λ no. absurd (none i no)) (cons_cases 1 [] i has);
+  sound = λ i has. ⊎_elim (λ same. subst (λ n. CanOwn (mode ∷ target ∷ []) (codes "a" ∷ []) n) same owns_target) (λ no. absurd (none i no)) (cons_cases 1 [] i has);
   complete = λ i can. subst (λ n. Contains (1 ∷ []) n) (sym (second_owner i can)) (contains_first 1 []);
   in_order = tt;
 }
@@ -179,9 +184,30 @@ no_second (suc (suc n)) i (k ∷ []) longer each is =
     let one : k ≡ 1 = each.0 in none_is i (subst (λ m. slice_get (take (suc (suc n)) (owners 0 (m ∷ []))) 1 ≡ Some i) one is)
 no_second (suc (suc n)) i (k ∷ m ∷ shares) longer each is = each.1
 
-pub past_mode : (i : ℕ) → CanOwn (mode ∷ []) 1 i → ⊥
+pub past_mode : (i : ℕ) → CanOwn (mode ∷ []) (codes "a" ∷ []) i → ⊥
 past_mode i can =
     no_second can.count i can.are_places.shares can.longer can.are_places.are_shares.each (subst (λ l. slice_get l 1 ≡ Some i) can.are_places.placed can.here)
 
-pub no_owner : AreOwners (mode ∷ []) 1 []
+pub no_owner : AreOwners (mode ∷ []) (codes "a" ∷ []) []
 no_owner = record { sound = λ i has. absurd (none i has); complete = λ i can. absurd (past_mode i can); in_order = tt }
+
+-- ---- `MODE [FILE]...`, where MODE has a list
+
+pub owns_file : CanOwn (mode_in_list ∷ files ∷ []) (codes "fast" ∷ []) 1
+owns_file = record {
+  count = 2;
+  longer = lit< tt;
+  within = tt;
+  places = 0 ∷ 1 ∷ [];
+  are_places = record { shares = 1 ∷ 1 ∷ []; are_shares = greedy_are_shares (mode_in_list ∷ files ∷ []) 1 tt; placed = refl };
+  none = refl;
+  here = refl;
+}
+
+pub no_owner_after_fats : AreOwners (mode_in_list ∷ files ∷ []) (codes "fats" ∷ []) []
+no_owner_after_fats = record { sound = λ i has. absurd (none i has); complete = λ i can. absurd (not_owned i can); in_order = tt }
+  where
+    not_owned : (i : ℕ) → CanOwn (mode_in_list ∷ files ∷ []) (codes "fats" ∷ []) i → ⊥
+    not_owned i can =
+        not_first can.count can.are_places.shares (let longer = can.longer in omega (arith, longer)) can.are_places.are_shares.each
+        (subst (λ places. refused_word (mode_in_list ∷ files ∷ []) places (codes "fats" ∷ []) ≡ None) can.are_places.placed can.none)

@@ -14,7 +14,7 @@ use Rattle.lexopt_line_spec.proofs.Computing.{computing}
 use Rattle.lexopt_line_spec.proofs.SpellerRows.{plain_off}
 use Rattle.lexopt_line_spec.proofs.Worked.{last_of, flag_of, value_after, cluster_line, joined_line, plain_line, plain_front_is, some, stops, reads_first, reads_joined, misses_values}
 use Rattle.lexopt_options_spec.specs.Declaration.{Declaration, Positional, table}
-use Rattle.lexopt_options_spec.specs.Legal.{Parsed, MeansFront, IsWithin, most, parsed_item, positional_count, option, several, positional}
+use Rattle.lexopt_options_spec.specs.Legal.{Parsed, MeansFront, IsWithin, most, parsed_item, positional_count, positional_words, option, several, positional}
 use Rattle.lexopt_options_spec.specs.Stops.{StopsAt, unknown_option, missing_value, unexpected_value, missing_argument, missing_option, invalid_argument, invalid_value, not_declared, value_of_flag}
 use Rattle.lexopt_options_spec.specs.Stops as stop
 use Rattle.lexopt_options_spec.specs.Completion.{HasRole, IsOpen, IsOption, JoinsValue, value_of}
@@ -132,12 +132,12 @@ unknown_nowhere = record { here = no_unknown []; with_more = λ w. no_unknown (w
 
 -- where no dash was typed first
 pub plain_role : {d : Declaration} {words : List (List ℕ)} {l : List Parsed} {s : State} (typed : List ℕ) → ¬ BeginsWith dash typed → Leaves d words l s → IsWithin (positional_count l) (most d.positionals)
-    → HasRole d words typed (role_in d.positionals (positional_count l) false s)
+    → HasRole d words typed (role_in d.positionals (positional_words l) false s)
 plain_role {d} {words} {l} {s} typed undashed = role_there d words typed l s false (λ is. absurd (false≢true is), λ begins. absurd (undashed begins))
 
 -- where one was
 pub dashed_role : {d : Declaration} {words : List (List ℕ)} {l : List Parsed} {s : State} (typed : List ℕ) → BeginsWith dash typed → Leaves d words l s → IsWithin (positional_count l) (most d.positionals)
-    → HasRole d words typed (role_in d.positionals (positional_count l) true s)
+    → HasRole d words typed (role_in d.positionals (positional_words l) true s)
 dashed_role {d} {words} {l} {s} typed dashed = role_there d words typed l s true (λ is. dashed, λ begins. refl)
 
 -- ---- values in the word of their option

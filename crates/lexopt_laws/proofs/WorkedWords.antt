@@ -118,7 +118,7 @@ pub source_filled : AreFilled (sources ∷ form_in_list ∷ []) (codes "a" ∷ [
 source_filled = record { more = codes "tar" ∷ []; enough = lit≤ tt; within = tt; taken = taken_with 0 tt refl refl }
 
 -- `fats`
-not_first : (count : ℕ) (shares : List ℕ) → 1 ≤ count → AllZip (λ p n. CanTake p.count n) (mode_in_list ∷ files ∷ []) shares
+pub not_first : (count : ℕ) (shares : List ℕ) → 1 ≤ count → AllZip (λ p n. CanTake p.count n) (mode_in_list ∷ files ∷ []) shares
     → refused_word (mode_in_list ∷ files ∷ []) (take count (owners 0 shares)) (codes "fats" ∷ []) ≡ None → ⊥
 not_first zero shares longer each none = absurd (omega (arith, longer))
 not_first (suc n) [] longer each none = absurd each

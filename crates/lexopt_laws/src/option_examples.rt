@@ -306,23 +306,25 @@ fn words_have_no_other_places()
 // The positionals that words can belong to: the first word of `[OLD] NEW` belongs to `OLD` if
 // another word comes after it, and to `NEW` if none does.
 fn words_can_belong_to_positionals()
-    ensures first { CanOwn (old ∷ new ∷ []) 0 0 }
-    ensures second { CanOwn (old ∷ new ∷ []) 0 1 }
-    ensures later { CanOwn (mode ∷ target ∷ []) 1 1 }
+    ensures first { CanOwn (old ∷ new ∷ []) [] 0 }
+    ensures second { CanOwn (old ∷ new ∷ []) [] 1 }
+    ensures later { CanOwn (mode ∷ target ∷ []) (codes "a" ∷ []) 1 }
+    ensures after_a_listed_word { CanOwn (mode_in_list ∷ files ∷ []) (codes "fast" ∷ []) 1 }
 {}
 
 // Positionals that words cannot belong to.
 fn words_cannot_belong_elsewhere()
-    ensures not_the_second { CanOwn (mode ∷ target ∷ []) 0 1 → ⊥ }
-    ensures past_the_end { (i : ℕ) → CanOwn (mode ∷ []) 1 i → ⊥ }
+    ensures not_the_second { CanOwn (mode ∷ target ∷ []) [] 1 → ⊥ }
+    ensures past_the_end { (i : ℕ) → CanOwn (mode ∷ []) (codes "a" ∷ []) i → ⊥ }
 {}
 
 // All positionals that a word can belong to.
 fn words_can_belong_to_these()
-    ensures two { AreOwners (old ∷ new ∷ []) 0 (0 ∷ 1 ∷ []) }
-    ensures one { AreOwners (mode ∷ target ∷ []) 0 (0 ∷ []) }
-    ensures none { AreOwners (mode ∷ []) 1 [] }
-    ensures role { AreOwnersIn (mode ∷ target ∷ []) (Some (argument 1)) (1 ∷ []) }
+    ensures two { AreOwners (old ∷ new ∷ []) [] (0 ∷ 1 ∷ []) }
+    ensures one { AreOwners (mode ∷ target ∷ []) [] (0 ∷ []) }
+    ensures none { AreOwners (mode ∷ []) (codes "a" ∷ []) [] }
+    ensures after_a_refused_word { AreOwners (mode_in_list ∷ files ∷ []) (codes "fats" ∷ []) [] }
+    ensures role { AreOwnersIn (mode ∷ target ∷ []) (Some (argument (codes "a" ∷ []))) (1 ∷ []) }
     ensures of_a_value { AreOwnersIn (mode ∷ target ∷ []) (Some (value 1)) [] }
     ensures of_nothing { AreOwnersIn (mode ∷ target ∷ []) None [] }
 {}
@@ -1006,9 +1008,9 @@ fn what_is_typed_is_completed()
 fn roles_are_by_the_last_parsed()
     ensures of_an_option { role_of [] (option 1 (Some (codes "x"))) ≡ value 1 }
     ensures of_several { role_of (option 0 None ∷ []) (several 3 (codes "a" ∷ [])) ≡ value 3 }
-    ensures positional { role_of [] (positional (codes "a")) ≡ argument 0 }
+    ensures positional { role_of [] (positional (codes "a")) ≡ argument [] }
     ensures second_positional { role_of (option 0 None ∷ positional (codes "a") ∷ option 0 None
-        ∷ []) (positional (codes "b")) ≡ argument 1 }
+        ∷ []) (positional (codes "b")) ≡ argument (codes "a" ∷ []) }
     ensures one_value { value_of (option 1 (Some (codes "x"))) ≡ Some (codes "x") }
     ensures without_a_value { value_of (option 1 None) ≡ None }
     ensures first_of_several { value_of (several 3 (codes "a" ∷ codes "b" ∷ []))
@@ -1070,13 +1072,14 @@ fn words_leave_states()
 // What a word is that is not an option, where no dash was typed first.
 fn plain_words_have_roles()
     ensures after_a_flag { (typed : List ℕ) → (¬ BeginsWith dash typed)
-        → HasRole (sample (files ∷ []) true) (codes "-v" ∷ []) typed (Some (argument 0)) }
+        → HasRole (sample (files ∷ []) true) (codes "-v" ∷ []) typed (Some (argument [])) }
     ensures after_a_positional { (typed : List ℕ) → (¬ BeginsWith dash typed)
-        → HasRole (sample (files ∷ []) true) (codes "a" ∷ []) typed (Some (argument 1)) }
+        → HasRole (sample (files ∷ []) true) (codes "a" ∷ []) typed
+        (Some (argument (codes "a" ∷ []))) }
     ensures no_more_positionals { (typed : List ℕ) → (¬ BeginsWith dash typed)
         → HasRole (sample [] true) (codes "-v" ∷ []) typed None }
     ensures after_an_optional_value { (typed : List ℕ) → (¬ BeginsWith dash typed)
-        → HasRole (sample (files ∷ []) true) (codes "-b" ∷ []) typed (Some (argument 0)) }
+        → HasRole (sample (files ∷ []) true) (codes "-b" ∷ []) typed (Some (argument [])) }
     ensures value_due { (typed : List ℕ) → (¬ BeginsWith dash typed)
         → HasRole (sample [] true) (codes "-o" ∷ []) typed (Some (value 1)) }
     ensures first_value_due { (typed : List ℕ) → (¬ BeginsWith dash typed)
@@ -1084,7 +1087,7 @@ fn plain_words_have_roles()
     ensures one_more_value { (typed : List ℕ) → (¬ BeginsWith dash typed)
         → HasRole (sample [] true) (codes "-x" ∷ codes "a" ∷ []) typed (Some (value 3)) }
     ensures after_the_separator { (typed : List ℕ) → (¬ BeginsWith dash typed)
-        → HasRole (sample (files ∷ []) true) (codes "--" ∷ []) typed (Some (argument 0)) }
+        → HasRole (sample (files ∷ []) true) (codes "--" ∷ []) typed (Some (argument [])) }
     ensures after_a_mistake { (typed : List ℕ) → (¬ BeginsWith dash typed)
         → HasRole (sample (files ∷ []) true) (codes "-z" ∷ []) typed None }
 {}
@@ -1102,7 +1105,7 @@ fn dashed_words_have_roles()
     ensures one_more_value { (typed : List ℕ) → BeginsWith dash typed
         → HasRole (sample [] true) (codes "-x" ∷ codes "a" ∷ []) typed None }
     ensures after_the_separator { (typed : List ℕ) → BeginsWith dash typed
-        → HasRole (sample (files ∷ []) true) (codes "--" ∷ []) typed (Some (argument 0)) }
+        → HasRole (sample (files ∷ []) true) (codes "--" ∷ []) typed (Some (argument [])) }
     ensures after_a_mistake { (typed : List ℕ) → BeginsWith dash typed
         → HasRole (sample (files ∷ []) true) (codes "-z" ∷ []) typed None }
 {}

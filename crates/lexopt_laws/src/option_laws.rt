@@ -37,7 +37,7 @@ pub fn each_line_means_something_or_stops()
 {}
 
 /// At most one role is that of every word that begins with what was typed, is longer, and is not an
-/// option: a value of one and the same option, or a positional after as many others.
+/// option: a value of one and the same option, or a positional after the same others.
 pub fn each_place_has_one_role()
     ensures { (d : Declaration) (words : List (List ℕ)) (typed : List ℕ) (r s : Option Role)
         → HasRole d words typed r → HasRole d words typed s → r ≡ s }
@@ -168,11 +168,11 @@ pub fn words_belong_to_one_positional()
         → ArePlaces ps n places → ArePlaces ps n others → places ≡ others }
 {}
 
-/// There is at most one list of the positionals that the word at an index can belong to, and at
-/// most one list of those that a word with a certain role can belong to.
+/// There is at most one list of the positionals that a word after certain words can belong to, and
+/// at most one list of those that a word with a certain role can belong to.
 pub fn words_can_belong_to_one_list_of_positionals()
-    ensures no_other { (ps : List Positional) (n : ℕ) (owners others : List ℕ)
-        → AreOwners ps n owners → AreOwners ps n others → owners ≡ others }
+    ensures no_other { (ps : List Positional) (words : List (List ℕ)) (owners others : List ℕ)
+        → AreOwners ps words owners → AreOwners ps words others → owners ≡ others }
     ensures role { (ps : List Positional) (role : Option Role) (owners others : List ℕ)
         → AreOwnersIn ps role owners → AreOwnersIn ps role others → owners ≡ others }
 {}

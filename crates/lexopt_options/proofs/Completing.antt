@@ -21,14 +21,13 @@ use Rattle.lexopt_line_spec.specs.Spelling.{no_words, plain_word}
 use Rattle.lexopt_line_spec.specs.Table as table
 use Rattle.lexopt_line_spec.specs.Table.{Item, Name}
 use Rattle.lexopt_options_spec.specs.Completion as spec
-use Rattle.lexopt_options_spec.specs.Completion.{AreText, Completes, HasRole, IsJoined, IsOpen, IsOption, JoinsValue, explained, explained_by, joined_at, list_of, listed_by, names_of, offered_values, spelling, spellings, values_at}
+use Rattle.lexopt_options_spec.specs.Completion.{AreText, HasRole, IsJoined, IsOption, JoinsValue, explained, explained_by, joined_at, list_of, listed_by, names_of, offered_values, spelling, spellings, values_at}
 use Rattle.lexopt_options_spec.specs.Help.{visible}
 use Rattle.lexopt_options_spec.proofs.Roles.{extends}
 use Rattle.lexopt_options_spec.proofs.Occurs.{AreNamed, occurs_accepted, occurs_open, occurs_taken}
 use Rattle.lexopt_options_spec.proofs.Taken.{filled}
-use Rattle.lexopt_options_spec.specs.Completion.{CanBeTaken}
 use Rattle.lexopt_options_spec.specs.Declaration.{Positional, are_listable}
-use Rattle.lexopt_options_spec.specs.Legal.{positional_count, positional_words}
+use Rattle.lexopt_options_spec.specs.Legal.{positional_words}
 use Rattle.lexopt_options_spec.specs.Completion.{words_at}
 use Rattle.lexopt_options.specs.declared.options.Options.{Options}
 use Rattle.lexopt_options.specs.Declarations.{declaration_of, options_of}
@@ -45,7 +44,6 @@ use Rattle.lexopt_options.specs.declared.complete.Joined.{Joined}
 use Rattle.lexopt_options.specs.declared.complete.Role.{Role}
 use Rattle.lexopt_options.specs.declared.complete.Role.TheVariants as role
 use Rattle.lexopt_options.specs.Roles.{IsDeclared, IsJoinedAt, IsRoleAt}
-use Rattle.lexopt_options_spec.specs.Legal.{refused_value}
 
 -- ---- a value in the word of its option
 

@@ -402,9 +402,9 @@ nowhere_comes d words none = ((λ yes. absurd (false≢true yes)), (λ there. ab
 
 -- what a word is
 pub front_role : (d : Declaration) (words : List (List ℕ)) (typed : List ℕ) (front : Front) (dashed : Bool) → IsFront d words front → (IsTrue dashed ↔ BeginsWith dash typed)
-    → HasRole d words typed (role_in d.positionals (length front.words.items) dashed (state_view front.state))
+    → HasRole d words typed (role_in d.positionals front.words.items dashed (state_view front.state))
 front_role d words typed front dashed is so =
-    subst (λ n. HasRole d words typed (role_in d.positionals n dashed (state_view front.state))) (sym (words_count is.l) ∙ ap (λ l. length l) is.words_are)
+    subst (λ own. HasRole d words typed (role_in d.positionals own dashed (state_view front.state))) is.words_are
     (role_there d words typed is.l (state_view front.state) dashed so is.leaves is.within)
 
 -- ---- a value in the word of its option

@@ -12,7 +12,7 @@ use Rattle.lexopt_options.specs.declared.options.Options.{Options}
 use Rattle.lexopt_options_spec.specs.Completion.{AreOwners, CanOwn, IsAscending}
 use Rattle.lexopt_options_spec.specs.Declaration as spec
 use Rattle.lexopt_options_spec.specs.Legal as legal
-use Rattle.lexopt_options_spec.specs.Legal.{IsWithin, most, positional_count, positional_words}
+use Rattle.lexopt_options_spec.specs.Legal.{IsWithin, most, positional_words}
 use Rattle.lexopt_options_spec.specs.Places.{AreShares, AreTaken, ArePlaces, IsNotTaken, least, owners, refused_word, takes_at}
 use Rattle.lexopt_options_spec.proofs.Shares.{greedy_are_shares, least_fits, shares_are_greedy, some_places}
 use Rattle.lexopt_options_spec.specs.Places.{greedy}
@@ -33,7 +33,7 @@ use Rattle.lexopt_options.specs.Mistakes.{IsMistake}
 use Rattle.lexopt_options.specs.Keys as keys
 use Rattle.lexopt_options.specs.Keys.{AreParsedAs, parsed_words}
 use Rattle.lexopt_options.specs.Taken as taken
-use Rattle.lexopt_options.specs.Taken.{has_list}
+use Rattle.lexopt_options.specs.Taken.{Owns, has_list}
 
 -- ---- by the number of words that are not required
 
@@ -85,9 +85,9 @@ taken_spare ps words s can none =
       none = refused_take ps (owners 0 (greedy ps s)) words (least ps + s) long ∙ none;
     }
 
-pub spare_owned : (ps : List spec.Positional) (n i : ℕ) → CanOwn ps n i → (s : ℕ) × CanSpare ps (suc n) s × (slice_get (owners 0 (greedy ps s)) n ≡ Some i)
-spare_owned ps n i can =
-    let soon = owned_soon ps n i can in
+pub spare_owned : (ps : List spec.Positional) (words : List (List ℕ)) (i : ℕ) → CanOwn ps words i → (s : ℕ) × CanSpare ps (suc (length words)) s × Owns ps words i s
+spare_owned ps words i can =
+    let soon = owned_soon ps words i can in
     let c = soon.0 in
     let m = c.count in
     let long = c.longer in
@@ -95,20 +95,24 @@ spare_owned ps n i can =
     let is = shares_so ps m c.places c.are_places in (
       m - least ps,
       record { low = omega (arith, long); high = omega (arith, small); within = enough_within (most ps) m (least ps) c.within (least_fits ps) },
-      sym (take_get m (owners 0 (greedy ps (m - least ps))) n long) ∙ ap (λ l. slice_get l n) (sym is) ∙ c.here,
+      (
+        sym (take_get m (owners 0 (greedy ps (m - least ps))) (length words) long) ∙ ap (λ l. slice_get l (length words)) (sym is) ∙ c.here,
+        sym (refused_take ps (owners 0 (greedy ps (m - least ps))) words m (omega (arith, long))) ∙ ap (λ l. refused_word ps l words) (sym is) ∙ c.none,
+      ),
     )
 
-pub owned_spare : (ps : List spec.Positional) (n i s : ℕ) → CanSpare ps (suc n) s → slice_get (owners 0 (greedy ps s)) n ≡ Some i → CanOwn ps n i
-owned_spare ps n i s can is =
+pub owned_spare : (ps : List spec.Positional) (words : List (List ℕ)) (i s : ℕ) → CanSpare ps (suc (length words)) s → Owns ps words i s → CanOwn ps words i
+owned_spare ps words i s can owns =
     let low = can.low in
-    let long : n < least ps + s = omega (arith, low) in
+    let long : length words < least ps + s = omega (arith, low) in
     record {
       count = least ps + s;
       longer = long;
       within = can.within;
       places = take (least ps + s) (owners 0 (greedy ps s));
       are_places = greedy_places ps s can.within;
-      here = take_get (least ps + s) (owners 0 (greedy ps s)) n long ∙ is;
+      none = refused_take ps (owners 0 (greedy ps s)) words (least ps + s) (omega (arith, long)) ∙ owns.1;
+      here = take_get (least ps + s) (owners 0 (greedy ps s)) (length words) long ∙ owns.0;
     }
 
 -- ---- the words of a line, one after another
@@ -239,7 +243,7 @@ takes_any (p ∷ ps) zero w none = go p.words (or_none (has_list p) (list_any (�
     go (words.Listed values) is = absurd (false≢true (sym is))
 takes_any (p ∷ ps) (suc i) w none = takes_any ps i w (or_none (has_list p) (list_any (λ p. has_list p) ps) none).1
 
-takes_all : {P : Type 0} (ps : List (Positional P)) (places : List ℕ) (ws : List (List ℕ)) → list_any (λ p. has_list p) ps ≡ false → refused_word (map positional_view ps) places ws ≡ None
+pub takes_all : {P : Type 0} (ps : List (Positional P)) (places : List ℕ) (ws : List (List ℕ)) → list_any (λ p. has_list p) ps ≡ false → refused_word (map positional_view ps) places ws ≡ None
 takes_all ps [] ws none = refl
 takes_all ps (i ∷ places) [] none = refl
 takes_all ps (i ∷ places) (w ∷ ws) none =
@@ -272,24 +276,24 @@ ascending_end [] n up below = tt
 ascending_end (i ∷ []) n up below = (below i (zero, omega arith, refl), tt)
 ascending_end (i ∷ j ∷ l) n up below = (up.0, ascending_end (j ∷ l) n up.1 (λ m has. below m (Contains-append_right (i ∷ []) (j ∷ l) m has)))
 
--- these are the positionals before this index that the last of `count` words can belong to
-pub record OwnersUpTo (ps : List spec.Positional) (count below : ℕ) (owners : List ℕ) : Type 0 where
-  pub sound : (i : ℕ) → Contains owners i → (i < below) × CanOwn ps (count - 1) i
-  pub complete : (i : ℕ) → i < below → CanOwn ps (count - 1) i → Contains owners i
+-- these are the positionals before this index that a word after these words can belong to
+pub record OwnersUpTo (ps : List spec.Positional) (words : List (List ℕ)) (below : ℕ) (owners : List ℕ) : Type 0 where
+  pub sound : (i : ℕ) → Contains owners i → (i < below) × CanOwn ps words i
+  pub complete : (i : ℕ) → i < below → CanOwn ps words i → Contains owners i
   pub in_order : IsAscending owners
 
-pub no_owners : (ps : List spec.Positional) (count : ℕ) (owners : List ℕ) → owners ≡ [] → OwnersUpTo ps count 0 owners
-no_owners ps count owners none = record {
+pub no_owners : (ps : List spec.Positional) (words : List (List ℕ)) (owners : List ℕ) → owners ≡ [] → OwnersUpTo ps words 0 owners
+no_owners ps words owners none = record {
   sound = λ i has. absurd (let h = subst (λ l. Contains l i) none has in let low = h.1 in omega (arith, low));
   complete = λ i low own. absurd (omega (arith, low));
   in_order = subst IsAscending (sym none) tt;
 }
 
-pub one_owner : (ps : List spec.Positional) (count n : ℕ) (owners more : List ℕ) → OwnersUpTo ps count n owners → CanOwn ps (count - 1) n → more ≡ owners ++ n ∷ [] → OwnersUpTo ps count (n + 1) more
-one_owner ps count n owners more are own is = subst (OwnersUpTo ps count (n + 1)) (sym is) (record {
+pub one_owner : (ps : List spec.Positional) (words : List (List ℕ)) (n : ℕ) (owners more : List ℕ) → OwnersUpTo ps words n owners → CanOwn ps words n → more ≡ owners ++ n ∷ [] → OwnersUpTo ps words (n + 1) more
+one_owner ps words n owners more are own is = subst (OwnersUpTo ps words (n + 1)) (sym is) (record {
   sound = λ i has. ⊎_elim
       (λ old. let s = are.sound i old in let low = s.0 in (omega (arith, low), s.1))
-      (λ new. let same = one_of n i new in (omega (arith, same), subst (CanOwn ps (count - 1)) same own))
+      (λ new. let same = one_of n i new in (omega (arith, same), subst (CanOwn ps words) same own))
       (Contains-append_cases owners (n ∷ []) i has);
   complete = λ i low can. ⊎_elim
       (λ below. Contains-append_left owners (n ∷ []) i (are.complete i below can))
@@ -302,27 +306,27 @@ one_owner ps count n owners more are own is = subst (OwnersUpTo ps count (n + 1)
     one_of n i (zero, low, is) = is
     one_of n i (suc k, low, is) = absurd (omega (arith, low))
 
-pub not_owner : (ps : List spec.Positional) (count n : ℕ) (owners : List ℕ) → OwnersUpTo ps count n owners → ¬ CanOwn ps (count - 1) n → OwnersUpTo ps count (n + 1) owners
-not_owner ps count n owners are none = record {
+pub not_owner : (ps : List spec.Positional) (words : List (List ℕ)) (n : ℕ) (owners : List ℕ) → OwnersUpTo ps words n owners → ¬ CanOwn ps words n → OwnersUpTo ps words (n + 1) owners
+not_owner ps words n owners are none = record {
   sound = λ i has. let s = are.sound i has in let low = s.0 in (omega (arith, low), s.1);
   complete = λ i low can. ⊎_elim
       (λ below. are.complete i below can)
-      (λ past. absurd (let same : i ≡ n = omega (arith, low, past) in none (subst (CanOwn ps (count - 1)) same can)))
+      (λ past. absurd (let same : i ≡ n = omega (arith, low, past) in none (subst (CanOwn ps words) same can)))
       (cases_lt i n);
   in_order = are.in_order;
 }
 
-pub owners_are : (ps : List spec.Positional) (count n : ℕ) (owners more : Vec ℕ Global) → owners ≡ more → OwnersUpTo ps count n owners.items → OwnersUpTo ps count n more.items
-owners_are ps count n owners more same are = subst (λ (v : Vec ℕ Global). OwnersUpTo ps count n v.items) same are
+pub owners_are : (ps : List spec.Positional) (words : List (List ℕ)) (n : ℕ) (owners more : Vec ℕ Global) → owners ≡ more → OwnersUpTo ps words n owners.items → OwnersUpTo ps words n more.items
+owners_are ps words n owners more same are = subst (λ (v : Vec ℕ Global). OwnersUpTo ps words n v.items) same are
 
 -- a positional that a word can belong to is declared
-owned_within : (ps : List spec.Positional) (n i : ℕ) → CanOwn ps n i → i < length ps
-owned_within ps n i can = let s = spare_owned ps n i can in let w = owner_within ps 0 s.0 n i s.2 in omega (arith, w)
+owned_within : (ps : List spec.Positional) (words : List (List ℕ)) (i : ℕ) → CanOwn ps words i → i < length ps
+owned_within ps words i can = let s = spare_owned ps words i can in let w = owner_within ps 0 s.0 (length words) i s.2.0 in omega (arith, w)
 
-pub all_owners : (ps : List spec.Positional) (count n : ℕ) (owners : List ℕ) → OwnersUpTo ps count n owners → length ps ≤ n → AreOwners ps (count - 1) owners
-all_owners ps count n owners are past = record {
+pub all_owners : (ps : List spec.Positional) (words : List (List ℕ)) (n : ℕ) (owners : List ℕ) → OwnersUpTo ps words n owners → length ps ≤ n → AreOwners ps words owners
+all_owners ps words n owners are past = record {
   sound = λ i has. (are.sound i has).1;
-  complete = λ i can. are.complete i (let w = owned_within ps (count - 1) i can in omega (arith, w, past)) can;
+  complete = λ i can. are.complete i (let w = owned_within ps words i can in omega (arith, w, past)) can;
   in_order = are.in_order;
 }
 
@@ -351,18 +355,16 @@ taken_never ps words count high past counted most_are over none can =
     let within = spare_within ps count high there.0 most_are spares in
     none there.0 spares.low (omega (arith, over, within)) there.2
 
-pub owned_found : (ps : List spec.Positional) (count low high s i : ℕ) → 1 ≤ count → low ≡ count - least ps → ((s : ℕ) → (s ≤ high) ↔ ((s ≤ count) × IsWithin (least ps + s) (most ps))) → low ≤ s → s ≤ high
-    → slice_get (owners 0 (greedy ps s)) (count - 1) ≡ Some i → CanOwn ps (count - 1) i
-owned_found ps count low high s i some low_is most_are above below is =
-    let one : count ≡ suc (count - 1) = omega (arith, some) in
-    owned_spare ps (count - 1) i s (subst (λ n. CanSpare ps n s) one (can_spare ps count low high s low_is most_are above below)) is
+pub owned_found : (ps : List spec.Positional) (words : List (List ℕ)) (count low high s i : ℕ) → count ≡ suc (length words) → low ≡ count - least ps → ((s : ℕ) → (s ≤ high) ↔ ((s ≤ count) × IsWithin (least ps + s) (most ps))) → low ≤ s → s ≤ high
+    → Owns ps words i s → CanOwn ps words i
+owned_found ps words count low high s i counted low_is most_are above below owns =
+    owned_spare ps words i s (subst (λ n. CanSpare ps n s) counted (can_spare ps count low high s low_is most_are above below)) owns
 
-pub owned_never : (ps : List spec.Positional) (count high past i : ℕ) → 1 ≤ count → ((s : ℕ) → (s ≤ high) ↔ ((s ≤ count) × IsWithin (least ps + s) (most ps))) → high < past
-    → ((s : ℕ) → count - least ps ≤ s → s < past → ¬ (slice_get (owners 0 (greedy ps s)) (count - 1) ≡ Some i)) → ¬ CanOwn ps (count - 1) i
-owned_never ps count high past i some most_are over none can =
-    let one : suc (count - 1) ≡ count = omega (arith, some) in
-    let there = spare_owned ps (count - 1) i can in
-    let spares = subst (λ n. CanSpare ps n there.0) one there.1 in
+pub owned_never : (ps : List spec.Positional) (words : List (List ℕ)) (count high past i : ℕ) → count ≡ suc (length words) → ((s : ℕ) → (s ≤ high) ↔ ((s ≤ count) × IsWithin (least ps + s) (most ps))) → high < past
+    → ((s : ℕ) → count - least ps ≤ s → s < past → ¬ Owns ps words i s) → ¬ CanOwn ps words i
+owned_never ps words count high past i counted most_are over none can =
+    let there = spare_owned ps words i can in
+    let spares = subst (λ n. CanSpare ps n there.0) (sym counted) there.1 in
     let within = spare_within ps count high there.0 most_are spares in
     none there.0 spares.low (omega (arith, over, within)) there.2
 

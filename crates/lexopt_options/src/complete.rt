@@ -14,7 +14,7 @@ ghost use Rattle.lexopt_declaration.specs.Models.{positional_view};
 ghost use Rattle.lexopt_options.specs.Completions.{CanCome, Opens, joined_values, values_so};
 ghost use Rattle.lexopt_options.specs.Completions.{word_values, words_so};
 ghost use Rattle.lexopt_options.specs.Declarations.{declaration_of};
-ghost use Rattle.lexopt_options.specs.Roles.{IsCounted, IsDeclared, IsRole, joined_view, place_view};
+ghost use Rattle.lexopt_options.specs.Roles.{IsDeclared, IsRole, joined_view, place_view, words_of};
 ghost use Rattle.lexopt_options.specs.States.{IsFrontOf, IsLast, state_view};
 
 use crate::front::{Front, State};
@@ -62,20 +62,21 @@ pub struct Completion<'a, F, V = Infallible, M = Infallible, S = Infallible> {
     /// whichever it is; `None` if no such word can come.
     pub word: Option<Role<'a, F, V, M, S>>,
     /// If that word would be a positional: the indices of the declared positionals that it can
-    /// belong to, by the number of positionals before it, whether or not more words come after it.
+    /// belong to, with some more words after it or none, where each positional before it belongs to
+    /// one that accepts it.
     pub arguments: Vec<usize>,
     /// The option whose value is typed in the word itself, where an option can come: `output` if
     /// `--output=` or `-ofi` was typed.
     pub joined: Option<Joined<'a, F, V, M, S>>,
 }
 
-// What a typed word is, if it is not an option. A positional is counted.
+// What a typed word is, if it is not an option.
 #[derive(Debug, Clone, Copy)]
 enum Place {
     // A value of the option at this index.
     Value(usize),
-    // A positional: the one of this number in the line, counted from 1.
-    Argument(usize),
+    // A positional.
+    Argument,
 }
 
 // ---- where an option can come
@@ -122,23 +123,21 @@ fn can_come<F, V, P, M, S>(options: &Options<'_, F, V, P, M, S>, front: &Option<
 
 // A positional after these words, if one more is allowed.
 fn room(limit: Option<usize>, words: &Vec<OsString>) -> Option<Place>
-    ensures counted { IsCounted result }
-    ensures room { (ps : List spec.Positional) → limit ≡ most ps
-        → option_map place_view result ≡ states.room ps (length words.now.items) }
+    ensures { (ps : List spec.Positional) → limit ≡ most ps
+        → option_map (place_view words.now.items) result ≡ states.room ps words.now.items }
 {
-    let count = words.len();
-    if is_full(limit, count) {
+    if is_full(limit, words.len()) {
         return None;
     }
-    Some(Place::Argument(count + 1))
+    Some(Place::Argument)
 }
 
 // What a word is after words that mean this, if it is not an option. `is_dashed` means that a dash
 // was typed first.
 fn place_after(limit: Option<usize>, front: &Front, is_dashed: bool) -> Option<Place>
-    ensures counted { IsCounted result }
-    ensures role { (ps : List spec.Positional) → limit ≡ most ps → option_map place_view result
-        ≡ states.role_in ps (length front.now.words.items) is_dashed (state_view front.now.state) }
+    ensures { let words = front.now.words.items in (ps : List spec.Positional) → limit ≡ most ps
+        → option_map (place_view words) result
+        ≡ states.role_in ps words is_dashed (state_view front.now.state) }
 {
     match front.state {
         State::Anything => {
@@ -157,6 +156,16 @@ fn place_after(limit: Option<usize>, front: &Front, is_dashed: bool) -> Option<P
             }
         }
         State::Ended => room(limit, &front.words),
+    }
+}
+
+// The positionals of words that mean this; none if they mean nothing.
+fn words_of(front: &Option<Front>) -> &[OsString]
+    ensures { result.now ≡ words_of front.now }
+{
+    match front {
+        Some(front) => &front.words,
+        None => &[],
     }
 }
 
@@ -238,12 +247,12 @@ fn role_of<'a, F, V, M, S>(
     options: &'a [Declared<'a, F, V, M, S>],
     place: Place,
 ) -> Role<'a, F, V, M, S>
-    requires { IsDeclared (length options.now) (place_view place) }
-    ensures { IsRole options.now (place_view place) result }
+    requires { (words : List (List ℕ)) × IsDeclared (length options.now) (place_view words place) }
+    ensures { (words : List (List ℕ)) → IsRole options.now (place_view words place) result }
 {
     match place {
         Place::Value(index) => Role::Value(option_at(options, index)),
-        Place::Argument(_) => Role::Argument,
+        Place::Argument => Role::Argument,
     }
 }
 
@@ -347,8 +356,8 @@ impl<'a, F, V, P, M, S> Options<'a, F, V, P, M, S> {
     ghost use Rattle.lexopt_options.specs.Completions.{AreOffered, CanCome, IsCompletion};
     ghost use Rattle.lexopt_options.specs.Completions.{Opens};
     ghost use Rattle.lexopt_options.specs.Declarations.{declaration_of, options_of};
-    ghost use Rattle.lexopt_options.specs.Roles.{IsCounted, IsJoinedAt, IsRoleAt, joined_view};
-    ghost use Rattle.lexopt_options.specs.Roles.{place_view};
+    ghost use Rattle.lexopt_options.specs.Roles.{IsJoinedAt, IsRoleAt, joined_view, place_view};
+    ghost use Rattle.lexopt_options.specs.Roles.{words_of};
     ghost use Rattle.lexopt_options.specs.States.{IsFrontOf};
 
     // The spellings that begin with what was typed; none if no option can come after words that
@@ -425,9 +434,9 @@ impl<'a, F, V, P, M, S> Options<'a, F, V, P, M, S> {
 
     // What a word is after words that mean this, if it is not an option.
     fn place(&self, front: &Option<Front>, typed: &OsString) -> Option<Place>
-        ensures counted { IsCounted result }
-        ensures role { (words : List (List ℕ)) → IsFrontOf (declaration_of self.now) words front.now
-            → HasRole (declaration_of self.now) words typed.now (option_map place_view result) }
+        ensures { (words : List (List ℕ)) → IsFrontOf (declaration_of self.now) words front.now
+            → HasRole (declaration_of self.now) words typed.now
+            (option_map (place_view (words_of front.now)) result) }
     {
         match front {
             Some(front) => place_after(self.most(), front, begins_with_dash(typed)),
@@ -437,9 +446,10 @@ impl<'a, F, V, P, M, S> Options<'a, F, V, P, M, S> {
 
     // What a word is at this place, with the option itself.
     fn role(&self, typed: &OsString, place: Option<Place>) -> Option<Role<'a, F, V, M, S>>
-        requires { (words : List (List ℕ)) × HasRole (declaration_of self.now) words typed.now
-            (option_map place_view place) }
-        ensures { IsRoleAt (options_of self.now) (option_map place_view place) result }
+        requires { (words before : List (List ℕ)) × HasRole (declaration_of self.now) words
+            typed.now (option_map (place_view before) place) }
+        ensures { (before : List (List ℕ))
+            → IsRoleAt (options_of self.now) (option_map (place_view before) place) result }
     {
         match place {
             Some(place) => Some(role_of(self.options(), place)),
@@ -447,14 +457,18 @@ impl<'a, F, V, P, M, S> Options<'a, F, V, P, M, S> {
         }
     }
 
-    // The indices of the positionals that a word at this place can belong to.
-    fn arguments(&self, alloc: Global, place: Option<Place>) -> Result<Vec<usize>, AllocError>
-        requires { IsCounted place }
+    // The indices of the positionals that a word at this place, after these words, can belong to.
+    fn arguments(
+        &self,
+        alloc: Global,
+        words: &[OsString],
+        place: Option<Place>,
+    ) -> Result<Vec<usize>, AllocError>
         ensures { IfOk result (λ owners. AreOwnersIn (declaration_of self.now).positionals
-            (option_map place_view place) owners.items) }
+            (option_map (place_view words.now) place) owners.items) }
     {
         match place {
-            Some(Place::Argument(count)) => owners_of(alloc, self.positionals(), count),
+            Some(Place::Argument) => owners_of(alloc, self.positionals(), words),
             Some(Place::Value(_)) | None => Ok(Vec::new(alloc)),
         }
     }
@@ -515,7 +529,7 @@ impl<'a, F, V, P, M, S> Options<'a, F, V, P, M, S> {
     {
         let place = self.place(front, typed);
         let word = self.role(typed, place);
-        let arguments = self.arguments(alloc, place)?;
+        let arguments = self.arguments(alloc, words_of(front), place)?;
         let joined = self.joined(alloc, is_open(front), typed)?;
         Ok(Completion {
             spellings: self.spellings_for(alloc, front, typed)?,

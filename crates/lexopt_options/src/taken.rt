@@ -1,5 +1,5 @@
 //! Which words the positionals of a line accept, and which positionals a word can belong to.
-ghost use Rattle.std.specs.Prelude.{◌≡◌, ◌≤◌, ◌↔◌, ◌+◌, ◌-◌, ℕ, IfOk, IsTrue, List, Some, false, length};
+ghost use Rattle.std.specs.Prelude.{◌≡◌, ◌≤◌, ◌↔◌, ◌+◌, ℕ, IfOk, IsTrue, List, Some, false, length};
 ghost use Rattle.std.specs.Prelude.{is_none, map, true};
 ghost use Rattle.std.specs.List.{list_any};
 ghost use Rattle.std.specs.Option.{MatchOption};
@@ -15,7 +15,7 @@ ghost use Rattle.lexopt_options.specs.Declarations.{declaration_of};
 ghost use Rattle.lexopt_options.specs.Keys.{parsed_words};
 ghost use Rattle.lexopt_options.specs.Mistakes.{IsMistake};
 ghost use Rattle.lexopt_options.specs.Taken as taken;
-ghost use Rattle.lexopt_options.specs.Taken.{IsInvalid, IsRefusal, IsRefusalAt};
+ghost use Rattle.lexopt_options.specs.Taken.{IsInvalid, IsRefusal, IsRefusalAt, Owns};
 
 use crate::listed::{accepts, is_listed};
 use crate::mistake::Mistake;
@@ -152,6 +152,10 @@ fn are_taken<P>(positionals: &[Positional<'_, P>], words: &[OsString], spare: us
     ensures { let ps = map positional_view positionals.now in result
         ≡ is_none (refused_word ps (owners 0 (greedy ps spare)) words.now) }
 {
+    // Few programs have positionals with lists.
+    if !any_has_list(positionals) {
+        return true;
+    }
     for (index, word) in words.iter().enumerate() {
         if let Some(place) = place_of(positionals, spare, index) {
             if !takes_at(positionals, place, word) {
@@ -189,23 +193,39 @@ pub fn can_be_taken<P>(positionals: &[Positional<'_, P>], words: &[OsString]) ->
     false
 }
 
-// Whether the last of `count` words can belong to the positional at this index, with some more
-// words after it or none.
-fn can_own<P>(positionals: &[Positional<'_, P>], count: usize, index: usize) -> bool
-    requires { 1 ≤ count }
-    ensures { IsTrue result ↔ CanOwn (map positional_view positionals.now) (count - 1) index }
+// Whether a word after these words belongs to the positional at this index, and each of these words
+// to one that accepts it, where there are `spare` more words than are required.
+fn owns<P>(
+    positionals: &[Positional<'_, P>],
+    words: &[OsString],
+    index: usize,
+    spare: usize,
+) -> bool
+    ensures { IsTrue result
+        ↔ Owns (map positional_view positionals.now) words.now index spare }
 {
-    let word = count - 1;
+    if place_of(positionals, spare, words.len()) == Some(index) {
+        return are_taken(positionals, words, spare);
+    }
+    false
+}
+
+// Whether a word after these words can belong to the positional at this index, and each of these
+// words to one that accepts it, with some more words at the end or none.
+fn can_own<P>(positionals: &[Positional<'_, P>], words: &[OsString], index: usize) -> bool
+    ensures { IsTrue result ↔ CanOwn (map positional_view positionals.now) words.now index }
+{
+    let count = words.len() + 1;
     for spare in spare_of(positionals, count)..=most_spare(positionals, count) {
-        if place_of(positionals, spare, word) == Some(index) {
+        if owns(positionals, words, index, spare) {
             return true;
         }
     }
     false
 }
 
-/// Returns the indices of the positionals that the last of `count` words can belong to, with some
-/// more words after it or none.
+/// Returns the indices of the positionals that a word after these words can belong to, where each of
+/// these words belongs to one that accepts it, with some more words at the end or none.
 ///
 /// # Errors
 ///
@@ -213,15 +233,14 @@ fn can_own<P>(positionals: &[Positional<'_, P>], count: usize, index: usize) -> 
 pub fn owners_of<P>(
     alloc: Global,
     positionals: &[Positional<'_, P>],
-    count: usize,
+    words: &[OsString],
 ) -> Result<Vec<usize>, AllocError>
-    requires { 1 ≤ count }
     ensures { IfOk result
-        (λ owners. AreOwners (map positional_view positionals.now) (count - 1) owners.items) }
+        (λ owners. AreOwners (map positional_view positionals.now) words.now owners.items) }
 {
-    let mut owners = Vec::new(alloc);
+    let mut owners = Vec::with_capacity(alloc, positionals.len())?;
     for index in 0..positionals.len() {
-        if can_own(positionals, count, index) {
+        if can_own(positionals, words, index) {
             owners.push(index)?;
         }
     }

@@ -14,7 +14,7 @@ use Rattle.lexopt_line_spec.proofs.Existence.{only_one}
 use Rattle.lexopt_line_spec.proofs.Names.{spelled_shows}
 use Rattle.lexopt_options_spec.specs.Declaration.{Declaration, table}
 use Rattle.lexopt_options_spec.specs.Legal as legal
-use Rattle.lexopt_options_spec.specs.Legal.{Parsed, parsed_item, positional_count, most, IsWithin, MeansFront}
+use Rattle.lexopt_options_spec.specs.Legal.{Parsed, parsed_item, positional_count, positional_words, most, IsWithin, MeansFront}
 use Rattle.lexopt_options_spec.specs.Completion.{EndsWith, Extends, HasRole, IsOpen, argument, value, role_of}
 use Rattle.lexopt_options_spec.specs.States.{State, Says, SaysOpenly, Leaves, leaves_anything, leaves_due, leaves_first, leaves_further, leaves_ended, LeadsNowhere, opens, is_full, room, role_in}
 use Rattle.lexopt_options_spec.proofs.Fronts.{Rest, rest_of, spelled_read}
@@ -24,6 +24,7 @@ use Rattle.lexopt_options_spec.proofs.Occurs.{dashes_calm, longer as no_longer}
 use Rattle.lexopt_options_spec.proofs.OpenLines.{dashes}
 use Rattle.lexopt_options_spec.proofs.ReadItems.{ReadsAll}
 use Rattle.lexopt_options_spec.proofs.Roles.{dashed_not_plain, not_whole, word_alone}
+use Rattle.lexopt_options_spec.proofs.Taken.{words_count}
 
 -- ---- what words say
 
@@ -93,15 +94,15 @@ below (Some m) n k full more within = at (eqb_tells m n)
 
 -- each of the words is a positional
 room_there : (d : Declaration) (words : List (List ℕ)) (typed : List ℕ) (l : List Parsed) → IsWithin (positional_count l) (most d.positionals)
-    → ((w : List ℕ) → Extends typed w → Says d (words ++ w ∷ []) (l ++ legal.positional w ∷ [])) → HasRole d words typed (room d.positionals (positional_count l))
-room_there d words typed l within says = at (is_full (most d.positionals) (positional_count l)) refl
+    → ((w : List ℕ) → Extends typed w → Says d (words ++ w ∷ []) (l ++ legal.positional w ∷ [])) → HasRole d words typed (room d.positionals (positional_words l))
+room_there d words typed l within says = at (is_full (most d.positionals) (length (positional_words l))) refl
   where
     none : is_full (most d.positionals) (positional_count l) ≡ true → HasRole d words typed None
     none full w longer before last takes =
         let same = says_once d (words ++ w ∷ []) (before ++ last ∷ []) (l ++ legal.positional w ∷ []) (front_says d (words ++ w ∷ []) (before ++ last ∷ []) takes.means) (says w longer) in
         absurd (over (most d.positionals) (positional_count l) (positional_count (before ++ last ∷ [])) full (ap positional_count same ∙ count_more l w) takes.means.within)
 
-    one : is_full (most d.positionals) (positional_count l) ≡ false → HasRole d words typed (Some (argument (positional_count l)))
+    one : is_full (most d.positionals) (positional_count l) ≡ false → HasRole d words typed (Some (argument (positional_words l)))
     one free w longer = (
       l,
       legal.positional w,
@@ -113,9 +114,9 @@ room_there d words typed l within says = at (is_full (most d.positionals) (posit
       refl,
     )
 
-    at : (b : Bool) → is_full (most d.positionals) (positional_count l) ≡ b → HasRole d words typed (if b then None else Some (argument (positional_count l)))
-    at true full = none full
-    at false free = one free
+    at : (b : Bool) → is_full (most d.positionals) (length (positional_words l)) ≡ b → HasRole d words typed (if b then None else Some (argument (positional_words l)))
+    at true full = none (subst (λ n. is_full (most d.positionals) n ≡ true) (words_count l) full)
+    at false free = one (subst (λ n. is_full (most d.positionals) n ≡ false) (words_count l) free)
 
 -- these words, with a word after them, mean nothing
 no_role : (d : Declaration) (words : List (List ℕ)) (typed : List ℕ) → ((w : List ℕ) → Extends typed w → (m : List Parsed) → ¬ MeansFront d (words ++ w ∷ []) m) → HasRole d words typed None
@@ -197,7 +198,7 @@ no_role_where_open d words typed l dashed says w longer_word before last takes =
             (word_alone w (longer (w ∷ []) all.there) (ap (λ ws. ws ++ w ∷ []) there.2) there.0 there.1 plain) more.all.reads (more.rest.are ∙ ap (map (λ s. Some s)) is) (subst (EndsWith w) same takes.whole))
 
 pub role_there : (d : Declaration) (words : List (List ℕ)) (typed : List ℕ) (l : List Parsed) (s : State) (dashed : Bool) → (IsTrue dashed ↔ BeginsWith dash typed) → Leaves d words l s
-    → IsWithin (positional_count l) (most d.positionals) → HasRole d words typed (role_in d.positionals (positional_count l) dashed s)
+    → IsWithin (positional_count l) (most d.positionals) → HasRole d words typed (role_in d.positionals (positional_words l) dashed s)
 role_there d words typed l s dashed tells (leaves_due i none all) within = value_there d words typed l i (λ w. legal.option i (Some w)) within (λ w. refl) (λ w. refl) (λ w. refl) (λ w longer. all w)
 role_there d words typed l s dashed tells (leaves_ended says all) within = room_there d words typed l within (λ w longer. all w)
 role_there d words typed l s true tells (leaves_anything says plain) within = no_role_where_open d words typed l (tells.0 refl) says

@@ -293,8 +293,9 @@ slice_get_take zero (suc k) (x ∷ l) small = refl
 slice_get_take (suc n) (suc k) (x ∷ l) small = slice_get_take n k l (omega (arith, small))
 
 -- and which positional a word can belong to
-pub owned_soon : (ps : List Positional) (n i : ℕ) → CanOwn ps n i → (fewer : CanOwn ps n i) × (fewer.count ≤ suc n + least ps)
-owned_soon ps n i can =
+pub owned_soon : (ps : List Positional) (words : List (List ℕ)) (i : ℕ) → CanOwn ps words i → (fewer : CanOwn ps words i) × (fewer.count ≤ suc (length words) + least ps)
+owned_soon ps words i can =
+    let n = length words in
     let few = fewer_places ps (suc n) can.count can.places (let l = can.longer in omega (arith, l)) can.within can.are_places in (
       record {
         count = few.count;
@@ -302,6 +303,7 @@ owned_soon ps n i can =
         within = few.within;
         places = few.others;
         are_places = few.are_places;
+        none = sym (refused_take ps few.others words (suc n) (omega arith)) ∙ ap (λ l. refused_word ps l words) few.same ∙ refused_take ps can.places words (suc n) (omega arith) ∙ can.none;
         here = sym (slice_get_take n (suc n) few.others (omega arith)) ∙ ap (λ l. slice_get l n) few.same ∙ slice_get_take n (suc n) can.places (omega arith) ∙ can.here;
       },
       few.small,

@@ -13,7 +13,7 @@ use Rattle.lexopt_options_spec.specs.Declaration.{Declaration, Declared, has_nam
 use Rattle.lexopt_options_spec.specs.Declaration.{Positional, Words, listed}
 use Rattle.lexopt_options_spec.specs.Help.{visible}
 use Rattle.lexopt_options_spec.specs.Legal.{IsWithin, Parsed, Means, MeansFront, most, option}
-use Rattle.lexopt_options_spec.specs.Legal.{positional, positional_count, several}
+use Rattle.lexopt_options_spec.specs.Legal.{positional, positional_words, several}
 use Rattle.lexopt_options_spec.specs.Places.{ArePlaces, refused_word}
 
 -- the word that spells the option of this name, and nothing else
@@ -93,14 +93,14 @@ AreText options = (name : Name) → list_any (has_name name) options ≡ true �
 pub data Role : Type 0 where
   -- a value of the option at this index
   value : ℕ → Role
-  -- a positional, with this many before it
-  argument : ℕ → Role
+  -- a positional, with these before it
+  argument : List (List ℕ) → Role
 
 -- what the last word is, where this is read last, after these
 abbrev pub role_of : List Parsed → Parsed → Role
 role_of before (option i v) = value i
 role_of before (several i values) = value i
-role_of before (positional word) = argument (positional_count before)
+role_of before (positional word) = argument (positional_words before)
 
 -- what is read is this word whole, or ends with it: it is the value, the last of several values, or
 -- the positional
@@ -167,14 +167,16 @@ IsJoined d words typed (Some joined) = JoinsValue d words typed joined.index joi
 
 -- ---- the positionals that a word can belong to
 
--- of some number of words, the word at index n belongs to the positional at index i
-pub record CanOwn (ps : List Positional) (n i : ℕ) : Type 0 where
+-- A word after these words belongs to the positional at index i, and each of these words to a
+-- positional that accepts it, with some more words at the end or none.
+pub record CanOwn (ps : List Positional) (words : List (List ℕ)) (i : ℕ) : Type 0 where
   pub count : ℕ
-  pub longer : n < count
+  pub longer : length words < count
   pub within : IsWithin count (most ps)
   pub places : List ℕ
   pub are_places : ArePlaces ps count places
-  pub here : slice_get places n ≡ Some i
+  pub none : refused_word ps places words ≡ None
+  pub here : slice_get places (length words) ≡ Some i
 
 -- each of these numbers is less than the next
 abbrev pub IsAscending : List ℕ → Type 0
@@ -182,16 +184,17 @@ IsAscending [] = Unit {0}
 IsAscending (i ∷ []) = Unit {0}
 IsAscending (i ∷ j ∷ l) = (i < j) × IsAscending (j ∷ l)
 
--- these are the indices of the positionals that the word at index n can belong to
-pub record AreOwners (ps : List Positional) (n : ℕ) (owners : List ℕ) : Type 0 where
-  pub sound : (i : ℕ) → Contains owners i → CanOwn ps n i
-  pub complete : (i : ℕ) → CanOwn ps n i → Contains owners i
+-- these are the indices of the positionals that a word after these words can belong to
+pub record AreOwners (ps : List Positional) (words : List (List ℕ)) (owners : List ℕ)
+    : Type 0 where
+  pub sound : (i : ℕ) → Contains owners i → CanOwn ps words i
+  pub complete : (i : ℕ) → CanOwn ps words i → Contains owners i
   pub in_order : IsAscending owners
 
 -- these are the indices of the positionals that a word with this role can belong to: none, if it is
 -- not a positional
 abbrev pub AreOwnersIn : List Positional → Option Role → List ℕ → Type 0
-AreOwnersIn ps (Some (argument n)) owners = AreOwners ps n owners
+AreOwnersIn ps (Some (argument words)) owners = AreOwners ps words owners
 AreOwnersIn ps role owners = owners ≡ []
 
 -- with some more words, each of these belongs to a positional that accepts it
@@ -218,7 +221,7 @@ listed_by (Some o) = list_of o.words
 -- the values in the list of the option that a word is a value of
 abbrev pub values_at : List Declared → Option Role → List (List ℕ)
 values_at options None = []
-values_at options (Some (argument n)) = []
+values_at options (Some (argument words)) = []
 values_at options (Some (value i)) = listed_by (slice_get options i)
 
 -- the words in the list of the positional at this index

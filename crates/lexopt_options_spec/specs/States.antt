@@ -1,5 +1,5 @@
 -- What the next word of a line is, after some words. The source is `docs/behaviour.md`.
-use Rattle.std.specs.Prelude.{◌≡◌, ◌==◌, ◌++◌, ◌∷◌, ℕ, Bool, true, false, List, [], map}
+use Rattle.std.specs.Prelude.{◌≡◌, ◌==◌, ◌++◌, ◌∷◌, ℕ, Bool, true, false, List, [], length, map}
 use Rattle.std.specs.Prelude.{Option, Some, None, if◌then◌else◌}
 use Rattle.lexopt_spec.specs.UnreadLine.{dash, IsPlain}
 use Rattle.lexopt_line_spec.specs.Table.{Item}
@@ -89,15 +89,15 @@ abbrev pub is_full : Option ℕ → ℕ → Bool
 is_full None count = false
 is_full (Some limit) count = limit == count
 
--- a positional after this many, if one more is allowed
-abbrev pub room : List Positional → ℕ → Option Role
-room ps count = if is_full (most ps) count then None else Some (argument count)
+-- a positional after these, if one more is allowed
+abbrev pub room : List Positional → List (List ℕ) → Option Role
+room ps words = if is_full (most ps) (length words) then None else Some (argument words)
 
--- What a word is in this state, after this many positionals, if it is not an option. `dashed` tells
+-- What a word is in this state, after these positionals, if it is not an option. `dashed` tells
 -- whether a dash was typed first.
-abbrev pub role_in : List Positional → ℕ → Bool → State → Option Role
-role_in ps count dashed anything = if dashed then None else room ps count
-role_in ps count dashed (due i) = Some (value i)
-role_in ps count dashed (first i) = if dashed then None else Some (value i)
-role_in ps count dashed (further i) = if dashed then None else Some (value i)
-role_in ps count dashed ended = room ps count
+abbrev pub role_in : List Positional → List (List ℕ) → Bool → State → Option Role
+role_in ps words dashed anything = if dashed then None else room ps words
+role_in ps words dashed (due i) = Some (value i)
+role_in ps words dashed (first i) = if dashed then None else Some (value i)
+role_in ps words dashed (further i) = if dashed then None else Some (value i)
+role_in ps words dashed ended = room ps words

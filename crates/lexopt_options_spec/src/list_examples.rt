@@ -55,7 +55,7 @@ pub fn values_in_lists_are_offered()
         ≡ codes "tar" ∷ [] }
     ensures no_list { offered_values lists [] (Some (value 0)) [] None ≡ [] }
     ensures no_option { offered_values lists [] (Some (value 3)) [] None ≡ [] }
-    ensures positional { offered_values lists [] (Some (argument 0)) [] None ≡ [] }
+    ensures positional { offered_values lists [] (Some (argument [])) [] None ≡ [] }
     ensures nothing { offered_values lists [] None [] None ≡ [] }
 {}
 
@@ -89,14 +89,15 @@ pub fn joined_values_are_offered()
 
 /// The words in the lists of the positionals that a word can belong to.
 pub fn words_in_lists_are_offered()
-    ensures one { offered_values lists [] (Some (argument 0)) (0 ∷ []) None
+    ensures one { offered_values lists [] (Some (argument [])) (0 ∷ []) None
         ≡ codes "fast" ∷ codes "slow" ∷ [] }
-    ensures two { offered_values lists [] (Some (argument 1)) (0 ∷ 1 ∷ []) None
+    ensures two { offered_values lists [] (Some (argument (codes "a" ∷ []))) (0 ∷ 1 ∷ []) None
         ≡ codes "fast" ∷ codes "slow" ∷ codes "tar" ∷ codes "zip" ∷ [] }
-    ensures begun { offered_values lists (codes "z") (Some (argument 1)) (0 ∷ 1 ∷ []) None
-        ≡ codes "zip" ∷ [] }
-    ensures no_positional { offered_values lists [] (Some (argument 2)) (2 ∷ []) None ≡ [] }
-    ensures before_options { offered_values lists [] (Some (argument 0)) (0 ∷ [])
+    ensures begun { offered_values lists (codes "z") (Some (argument (codes "a" ∷ [])))
+        (0 ∷ 1 ∷ []) None ≡ codes "zip" ∷ [] }
+    ensures no_positional { offered_values lists [] (Some (argument (codes "a" ∷ [])))
+        (2 ∷ []) None ≡ [] }
+    ensures before_options { offered_values lists [] (Some (argument [])) (0 ∷ [])
         (joined_after 1 (codes "--mode=")) ≡ codes "fast" ∷ codes "slow" ∷ codes "--mode=fast"
         ∷ codes "--mode=slow" ∷ codes "--mode=slower" ∷ [] }
 {}

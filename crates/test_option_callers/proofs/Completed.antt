@@ -2,14 +2,13 @@
 use Rattle.std.proofs.Common.{◌≡◌, ℕ, List, [], ◌∷◌, ◌++◌, Some, None, subst, sym, ap, ◌∙◌, refl, map, option_map, Option, slice_get, string_bytes, codes, inl, inr, ⊎_elim, Bool, false}
 use Rattle.std.specs.Prelude.{String, if◌then◌else◌, unwrap_or}
 use Rattle.std.specs.Global.{Global}
-use Rattle.std.specs.Borrow.{Bor}
 use Rattle.std.specs.List.{flat_map, list_any}
 use Rattle.std.proofs.Math.Path.{fun_ext}
 use Rattle.std.proofs.lemmas.Option.{slice_get-map}
 use Rattle.lexopt_line_spec.proofs.Computing.{computing}
 use Rattle.lexopt_options_spec.specs.Declaration.{Declaration, for_help, for_version}
 use Rattle.lexopt_options_spec.specs.Completion as completion
-use Rattle.lexopt_options_spec.specs.Completion.{AreOwnersIn, Completes, HasRole, IsJoined, offered_values}
+use Rattle.lexopt_options_spec.specs.Completion.{AreOwnersIn, HasRole, IsJoined, offered_values}
 use Rattle.lexopt_declaration.specs.Scripts.{request_text, shell_script, variable_name}
 use Rattle.lexopt_declaration.specs.declared.shell.Shell.{Shell}
 use Rattle.lexopt_declaration.specs.declared.shell.ShellRequest.TheVariants as asks
@@ -47,11 +46,11 @@ pub same_role : (options : List (Declared Flag Value Maybe Values)) (r : Option 
 same_role options None None is = is
 same_role options None (Some r) is = is
 same_role options (Some (completion.value i)) None is = is
-same_role options (Some (completion.argument n)) None is = is
+same_role options (Some (completion.argument before)) None is = is
 same_role options (Some (completion.value i)) (Some (role.Value option)) is = tt
 same_role options (Some (completion.value i)) (Some role.Argument) is = is
-same_role options (Some (completion.argument n)) (Some role.Argument) is = is
-same_role options (Some (completion.argument n)) (Some (role.Value option)) is = is
+same_role options (Some (completion.argument before)) (Some role.Argument) is = is
+same_role options (Some (completion.argument before)) (Some (role.Value option)) is = is
 
 pub same_joined : (options : List (Declared Flag Value Maybe Values)) (j : Option completion.Joined) (found : Option (Joined Flag Value Maybe Values)) → IsJoinedAt options j found → IsSameJoined j found
 same_joined options None None is = is
@@ -138,11 +137,11 @@ role_text : (options : List (Declared Flag Value Maybe Values)) (ps : List (Posi
 role_text options ps None None owners view own is = refl
 role_text options ps None (Some r) owners view own is = absurd is
 role_text options ps (Some (completion.value i)) None owners view own is = absurd is
-role_text options ps (Some (completion.argument n)) None owners view own is = absurd is
+role_text options ps (Some (completion.argument before)) None owners view own is = absurd is
 role_text options ps (Some (completion.value i)) (Some (role.Value option)) owners view own is = names option.now.words ∙ ap line_at (sym (at_tool options i option.now view is))
 role_text options ps (Some (completion.value i)) (Some role.Argument) owners view own is = absurd is
-role_text options ps (Some (completion.argument n)) (Some role.Argument) owners view own is = owners_text ps owners own
-role_text options ps (Some (completion.argument n)) (Some (role.Value option)) owners view own is = absurd is
+role_text options ps (Some (completion.argument before)) (Some role.Argument) owners view own is = owners_text ps owners own
+role_text options ps (Some (completion.argument before)) (Some (role.Value option)) owners view own is = absurd is
 
 joined_text : (options : List (Declared Flag Value Maybe Values)) (j : Option completion.Joined) (found : Option (Joined Flag Value Maybe Values)) → map option_view options ≡ tool_options → IsJoinedAt options j found
     → joined_line found ≡ by.joined_line j

@@ -2,7 +2,6 @@
 use Rattle.std.proofs.Common.{◌≡◌, ◌∙◌, ℕ, Bool, List, [], ◌∷◌, Some, None, Option, Ok, Err, Result, refl, sym, ap, subst, position}
 use Rattle.std.specs.Prelude.{option_and_then, option_map, slice_get}
 use Rattle.std.proofs.Math.Path.{fun_ext}
-use Rattle.std.specs.Borrow.{Bor}
 use Rattle.std.specs.List.{AllZip}
 use Rattle.anyhow.specs.declared.error.Error.{Error as Cause}
 use Rattle.lexopt_words.specs.declared.error.Error.{Error}
@@ -117,7 +116,7 @@ known_role options None None is = tt
 known_role options (Some r) None is = tt
 known_role options None (Some r) is = absurd is
 known_role options (Some (completion.value i)) (Some (role.Value option)) is = (i, is)
-known_role options (Some (completion.argument n)) (Some (role.Value option)) is = absurd is
+known_role options (Some (completion.argument before)) (Some (role.Value option)) is = absurd is
 known_role options (Some r) (Some role.Argument) is = tt
 
 -- ---- a value that is converted

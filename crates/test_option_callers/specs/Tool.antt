@@ -4,7 +4,7 @@ use Rattle.std.specs.Prelude.{◌≢◌, ◌⊎◌, ◌++◌, ◌-◌, ◌==◌,
 use Rattle.std.specs.Prelude.{encode_utf8, filter, length, nat_lt}
 use Rattle.std.specs.Global.{Global}
 use Rattle.std.specs.Str.{chars}
-use Rattle.std.specs.Prelude.{nat_eq, option_map}
+use Rattle.std.specs.Prelude.{nat_eq}
 use Rattle.std.specs.Prelude.{map, slice_get, string_bytes}
 use Rattle.std.specs.List.{AllZip, flat_map, list_any, starts_with}
 use Rattle.lexopt_declaration.specs.declared.declaration.Names.{Names}
@@ -289,7 +289,7 @@ IsSameJoined joined found = ⊥
 abbrev pub IsSameRole : Option completion.Role → Option (Role Flag Value Maybe Values) → Type 0
 IsSameRole None None = Unit {0}
 IsSameRole (Some (completion.value i)) (Some (role.Value option)) = Unit {0}
-IsSameRole (Some (completion.argument n)) (Some role.Argument) = Unit {0}
+IsSameRole (Some (completion.argument before)) (Some role.Argument) = Unit {0}
 IsSameRole r found = ⊥
 
 -- ---- the usage line
@@ -362,7 +362,7 @@ owners_line owners =
 -- the line for a word that is not an option, and belongs to one of these if it is a positional
 abbrev pub role_line : Option completion.Role → List ℕ → List ℕ
 role_line None owners = []
-role_line (Some (completion.argument n)) owners = owners_line owners
+role_line (Some (completion.argument before)) owners = owners_line owners
 role_line (Some (completion.value i)) owners = line_at (slice_get tool_options i)
 
 -- the line for a value that is in the word of its option

@@ -82,14 +82,15 @@ fn write_unlisted_word(
     Ok(())
 }
 
-// Writes the mistake of the first word that its positional does not accept, if there is one.
+// Writes the mistake of the first word that its positional does not accept, if there is one. The
+// positionals of the words have these keys.
 fn write_unlisted_words(
     alloc: Global,
     text: &mut String,
     plan: &'static Plan,
     items: &[Item<'_>],
+    places: &[Place],
 ) -> Result<(), AllocError> {
-    let places = places_of(alloc, plan, count_of(items))?;
     let mut words = 0usize;
     for item in items {
         if let (true, Item::Word(word), Some(place)) = (text.is_empty(), item, places.get(words)) {
@@ -100,13 +101,21 @@ fn write_unlisted_words(
     Ok(())
 }
 
-/// Whether the word after `count` others can belong to the positional of this key, with or without
-/// more words after it.
-pub fn can_own(alloc: Global, plan: &Plan, count: usize, key: Place) -> Result<bool, AllocError> {
+/// Whether a word after these items can belong to the positional of this key, with or without more
+/// words after it, and the words before it to positionals that accept them.
+pub fn can_own(
+    alloc: Global,
+    plan: &'static Plan,
+    items: &[Item<'_>],
+    key: Place,
+) -> Result<bool, AllocError> {
+    let count = count_of(items);
     for more in 1..7usize {
         let whole = count.saturating_add(more);
         let places = places_of(alloc, plan, whole)?;
-        if places.len() == whole && places.get(count) == Some(&key) {
+        let mut text = String::new(alloc);
+        write_unlisted_words(alloc, &mut text, plan, items, &places)?;
+        if text.is_empty() && places.len() == whole && places.get(count) == Some(&key) {
             return Ok(true);
         }
     }
@@ -123,7 +132,8 @@ pub fn write_missing(
     if let Some(placeholder) = missing_argument(plan, count_of(items)) {
         return write!(text, "missing argument {placeholder}");
     }
-    write_unlisted_words(alloc, text, plan, items)?;
+    let places = places_of(alloc, plan, count_of(items))?;
+    write_unlisted_words(alloc, text, plan, items, &places)?;
     if let (true, Some(names)) = (text.is_empty(), missing_option(plan, items)) {
         write!(text, "missing option '{}'", name_of(names))?;
     }

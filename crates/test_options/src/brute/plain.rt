@@ -380,20 +380,22 @@ pub fn read<'w>(
     Ok(reader)
 }
 
-/// What can come after these words if lists accept every value, and how many of the words are
-/// positionals.
-pub fn next_after(
+/// What can come after these words if lists accept every value, and the items of the words, up to
+/// the mistake if there is one.
+pub fn next_after<'w>(
     alloc: Global,
     plan: &'static Plan,
-    words: &[&str],
-) -> Result<(Next, usize), AllocError> {
+    words: &[&'w str],
+) -> Result<(Next, Vec<Item<'w>>), AllocError> {
     let mut reader = new_reader(alloc, plan, false);
     reader.read_words(words)?;
-    if reader.mistake.is_empty() {
-        Ok((reader.possible_next(), count_of(&reader.items)))
+    let next = if reader.mistake.is_empty() {
+        reader.possible_next()
     } else {
-        Ok((Next::Nothing, 0))
-    }
+        Next::Nothing
+    };
+    let Reader { items, .. } = reader;
+    Ok((next, items))
 }
 
 /// A spelling, and the place of its option in the declaration.

@@ -109,15 +109,15 @@ fn add_spellings(
     Ok(())
 }
 
-// Adds the positionals to which the word after `count` others can belong, and their lists.
+// Adds the positionals to which a word after these items can belong, and their lists.
 fn add_owners(
     alloc: Global,
     plan: &'static Plan,
-    count: usize,
+    items: &[Item<'_>],
     possible: &mut Possible,
 ) -> Result<(), AllocError> {
     for (place, own) in plan.positionals.iter().enumerate() {
-        if can_own(alloc, plan, count, own.key)? {
+        if can_own(alloc, plan, items, own.key)? {
             possible.owners.push(place)?;
             possible
                 .words
@@ -133,7 +133,7 @@ fn possible_after(
     plan: &'static Plan,
     before: &[&'static str],
 ) -> Result<Possible, AllocError> {
-    let (next, count) = next_after(alloc, plan, before)?;
+    let (next, items) = next_after(alloc, plan, before)?;
     let mut possible = Possible {
         spellings: Vec::new(alloc),
         next,
@@ -144,7 +144,7 @@ fn possible_after(
     if front.mistake.is_empty() {
         add_spellings(alloc, plan, before, &front.items, &mut possible)?;
     }
-    add_owners(alloc, plan, count, &mut possible)?;
+    add_owners(alloc, plan, &items, &mut possible)?;
     Ok(possible)
 }
 

@@ -1,4 +1,4 @@
-use Rattle.lexopt_laws.proofs.OwnedWords.{no_owner, owner_is_mode, owner_is_target, owners_of_both}
+use Rattle.lexopt_laws.proofs.OwnedWords.{no_owner, no_owner_after_fats, owner_is_mode, owner_is_target, owners_of_both}
 use Rattle.lexopt_laws.proofs.option_examples.words_can_belong_to_these.Goals as goal
 
 pub returns-clause-two : goal.returns-clause-two
@@ -9,6 +9,9 @@ returns-clause-one c = owner_is_mode
 
 pub returns-clause-none : goal.returns-clause-none
 returns-clause-none c = no_owner
+
+pub returns-clause-after_a_refused_word : goal.returns-clause-after_a_refused_word
+returns-clause-after_a_refused_word c = no_owner_after_fats
 
 pub returns-clause-role : goal.returns-clause-role
 returns-clause-role c = owner_is_target

@@ -2,12 +2,17 @@ use Rattle.std.proofs.Common.{ap, arith, is_none, map, sym, ◌∙◌}
 use Rattle.lexopt_declaration.specs.Models.{positional_view}
 use Rattle.lexopt_options_spec.specs.Places.{owners}
 use Rattle.lexopt_options_spec.specs.Places.{greedy}
-use Rattle.lexopt_options.proofs.TakenWords.{at_end, at_first, at_next, at_no_place, at_refused, none_left, word_next}
+use Rattle.lexopt_options.proofs.TakenWords.{at_end, at_first, at_next, at_no_place, at_refused, none_left, takes_all, word_next}
 use Rattle.lexopt_options.proofs.taken.are_taken.Goals.{in-Some+else-not-takes_at, in_default}
 use Rattle.lexopt_options.proofs.taken.are_taken.Goals as goal
 
 pub loop-index-init : goal.loop-index-init
 loop-index-init g c = let ps = map positional_view c.args.positionals.now in at_first ps (owners 0 (greedy ps c.args.spare)) c.args.words.now
+
+pub returns-then-not-any_has_list : goal.returns-then-not-any_has_list
+returns-then-not-any_has_list g c =
+    let ps = map positional_view c.args.positionals.now in
+    sym (ap is_none (takes_all c.args.positionals.now (owners 0 (greedy ps c.args.spare)) c.args.words.now (sym c.any_has_list.ensures ∙ c.if-not-any_has_list.true)))
 
 pub returns-then-not-takes_at : goal.returns-then-not-takes_at
 returns-then-not-takes_at g c =
