@@ -13,7 +13,7 @@ from typing import Callable
 MIB = 1 << 20
 
 # By work: the bound of the geometric mean of its rows.
-MEANS = {"parsed": 1.0}
+MEANS = {"parsed": 0.8}
 
 # The bound of the cost of completing a word, over that of reading the words before it.
 COMPLETED = 1.2
