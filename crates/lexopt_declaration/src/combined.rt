@@ -10,11 +10,25 @@ use std::alloc::{AllocError, Global};
 use std::convert::Infallible;
 
 /// A group of options, for [`Combined::new`]. `declare_group!` of `lexopt_options` makes one.
-#[derive(Debug, Clone, Copy)]
+#[derive(Debug)]
 pub struct Group<'a, F, V = Infallible, M = Infallible, S = Infallible> {
     /// Its options.
     pub options: &'a [Declared<'a, F, V, M, S>],
 }
+
+impl<F, V, M, S> Clone for Group<'_, F, V, M, S> {
+    ghost use Rattle.std.specs.Prelude.{◌≡◌, ⊤};
+
+    ghost is_clone = { λ own copy. copy ≡ own };
+
+    ghost is_infallible = { λ _. ⊤ };
+
+    fn clone(&self) -> Result<Self, AllocError> {
+        Ok(*self)
+    }
+}
+
+impl<F, V, M, S> Copy for Group<'_, F, V, M, S> {}
 
 /// A declaration with the options of several groups.
 ///

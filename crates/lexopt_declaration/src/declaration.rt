@@ -15,6 +15,7 @@ ghost use Rattle.lexopt_declaration.specs.Models.{positional_view, reason_view, 
 use crate::message::Escaped;
 use crate::positionals::{first_bad_list, second_repeated};
 use lexopt_words::message::write_escaped;
+use std::alloc::AllocError;
 use std::convert::Infallible;
 use std::fmt;
 
@@ -764,7 +765,7 @@ impl std::error::Error for DeclarationError<'_> {}
 /// keys: `F` for flags, `V` for options of one value, `P` for positionals, `M` for options whose
 /// value may be left out, `S` for options of several values. The type is `Infallible` if the
 /// program has none of that kind.
-#[derive(Debug, Clone, Copy)]
+#[derive(Debug)]
 pub struct Declaration<'a, F, V = Infallible, P = Infallible, M = Infallible, S = Infallible> {
     /// The name under which the program is installed.
     ///
@@ -790,6 +791,20 @@ pub struct Declaration<'a, F, V = Infallible, P = Infallible, M = Infallible, S 
     /// look-up goes through the options in turn. [`Combined`](crate::combined::Combined) fills it.
     pub guesses: &'a [u16],
 }
+
+impl<F, V, P, M, S> Clone for Declaration<'_, F, V, P, M, S> {
+    ghost use Rattle.std.specs.Prelude.{◌≡◌, ⊤};
+
+    ghost is_clone = { λ own copy. copy ≡ own };
+
+    ghost is_infallible = { λ _. ⊤ };
+
+    fn clone(&self) -> Result<Self, AllocError> {
+        Ok(*self)
+    }
+}
+
+impl<F, V, P, M, S> Copy for Declaration<'_, F, V, P, M, S> {}
 
 // Whether a name has U+FFFD in it. It is separate from `has_replacement` for the proof: its
 // contract is by the characters of the name, and not by those of its lossy text.

@@ -3,6 +3,7 @@
 use crate::front::{Begun, read_front};
 use crate::leading::words_from;
 use crate::options::Options;
+use lexopt_base::parser::Parser;
 use lexopt_words::os_string::OsString;
 use std::alloc::{AllocError, Global};
 use std::convert::Infallible;
@@ -24,8 +25,10 @@ pub enum LeadingCompletion {
 }
 
 impl<F, V, M, S> Options<'_, F, V, Infallible, M, S> {
-    ghost use Rattle.std.specs.Prelude.{IfOk};
+    ghost use Rattle.std.specs.Prelude.{◌≡◌, ℕ, IfOk, List};
+    ghost use Rattle.lexopt_line_spec.specs.Readings.{start};
     ghost use Rattle.lexopt_options.specs.Begun.{IsLeadingCompletion};
+    ghost use Rattle.lexopt_options.specs.Declarations.{declaration_of};
 
     /// Returns the words after the leading options, if there are any, and otherwise what can come
     /// where `typed` is typed.
@@ -74,9 +77,27 @@ impl<F, V, M, S> Options<'_, F, V, Infallible, M, S> {
     {
         let count = words.len();
         let mut parser = self.parser_of(words);
-        match read_front(alloc, &mut parser, self)? {
+        self.complete_parsed(alloc, &mut parser, count, typed)
+    }
+
+    // The result of `complete_leading` for the line of this parser, of `count` words. It is apart
+    // for a cheap proof: `complete_leading` drops the parser, and this function has the branches.
+    fn complete_parsed(
+        &self,
+        alloc: Global,
+        parser: &mut Parser,
+        count: usize,
+        typed: &OsString,
+    ) -> Result<LeadingCompletion, AllocError>
+        requires { (words : List (List ℕ))
+            × (parser.old ≡ start (declaration_of self.now).short_equals words) }
+        ensures { (words : List (List ℕ))
+            → parser.old ≡ start (declaration_of self.now).short_equals words
+            → IfOk result (λ found. IsLeadingCompletion self.now words typed.now found) }
+    {
+        match read_front(alloc, parser, self)? {
             Begun::Rest(word) => {
-                let rest = words_from(alloc, &mut parser, word, count)?;
+                let rest = words_from(alloc, parser, word, count)?;
                 Ok(LeadingCompletion::Rest(rest))
             }
             Begun::Front(front, can_come_first) => {

@@ -111,17 +111,20 @@ pub(crate) fn words_from(
     Ok(words)
 }
 
-// Reads the leading options of a line by keys.
+// Reads the leading options of a line of `count` words by keys.
 fn read_options<'a, F: Copy, V: Copy, P: Copy, M: Copy, S: Copy>(
     alloc: Global,
+    parser: &mut Parser,
     options: &Options<'a, F, V, P, M, S>,
-    words: Vec<OsString>,
+    count: usize,
 ) -> Result<Leading<'a, F, V, P, M, S>, AllocError>
-    ensures { IfOk result (λ leading. IsLeadingRead options.now words.items leading) }
+    requires { (words : List (List ℕ))
+        × (parser.old ≡ start (declaration_of options.now).short_equals words) }
+    ensures { (words : List (List ℕ))
+        → parser.old ≡ start (declaration_of options.now).short_equals words
+        → IfOk result (λ leading. IsLeadingRead options.now words leading) }
 {
-    let count = words.len();
-    let mut parser = options.parser_of(words);
-    let read = read_keys(alloc, &mut parser, options, Some(0), count.min(FIRST_ROOM))?;
+    let read = read_keys(alloc, parser, options, Some(0), count.min(FIRST_ROOM))?;
     let Read {
         parsed,
         seen,
@@ -131,7 +134,7 @@ fn read_options<'a, F: Copy, V: Copy, P: Copy, M: Copy, S: Copy>(
     match ended {
         Ended::End => Ok(end(options, parsed, &seen, Vec::new(alloc))),
         Ended::Positional(word) => {
-            let rest = words_from(alloc, &mut parser, word, count)?;
+            let rest = words_from(alloc, parser, word, count)?;
             Ok(end(options, parsed, &seen, rest))
         }
         Ended::Asked(asked) => Ok(Leading::Asked(asked)),
@@ -191,6 +194,8 @@ impl<'a, F: Copy, V: Copy, P: Copy, M: Copy, S: Copy> Options<'a, F, V, P, M, S>
             → MeansLeading (declaration_of self.now) words.items l rest
             → IfOk result (λ leading. IsLeadingOf self.now l rest leading) }
     {
-        read_options(alloc, self, words)
+        let count = words.len();
+        let mut parser = self.parser_of(words);
+        read_options(alloc, &mut parser, self, count)
     }
 }

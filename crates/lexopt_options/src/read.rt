@@ -414,9 +414,9 @@ fn ask<'a, F, V, P, M, S>(
 }
 
 // Reads a line by keys, up to one positional more than `limit`, into a list that has room for
-// `room` things from the start. This function and `refuse` are always inlined for speed: a call
-// would be handed what was read, which would then stay in memory and not in registers while the
-// line is read.
+// `room` things from the start. This function, `refuse` and `line_of` are always inlined for speed:
+// a call would be handed what was read, which would then stay in memory and not in registers while
+// the line is read.
 #[inline(always)]
 pub fn read_keys<'a, F: Copy, V: Copy, P: Copy, M: Copy, S: Copy>(
     alloc: Global,
@@ -493,17 +493,18 @@ fn refuse<'a, F, V, P: Copy, M, S>(
     })
 }
 
-// Reads a whole line by keys.
-fn read_line<'a, F: Copy, V: Copy, P: Copy, M: Copy, S: Copy>(
-    alloc: Global,
+// What a line is of which this was read. It is apart from `read_line`, which drops the parser, so
+// that the proofs of both stay cheap.
+#[inline(always)]
+fn line_of<'a, F: Drop, V: Drop, P: Copy, M: Drop, S: Drop>(
     options: &Options<'a, F, V, P, M, S>,
-    words: Vec<OsString>,
+    read: Read<'a, F, V, P, M, S>,
 ) -> Result<Line<'a, F, V, P, M, S>, AllocError>
-    ensures { IfOk result (λ line. IsLineRead options.now words.items line) }
+    ensures { (words : List (List ℕ)) (v : UnreadLine)
+        → HasEnded options.now words (most (declaration_of options.now).positionals)
+        read.entry.count read.entry.seen.items read.entry.parsed.items read.entry.ended v
+        → IfOk result (λ line. IsLineRead options.now words line) }
 {
-    let room = words.len().min(FIRST_ROOM);
-    let mut parser = options.parser_of(words);
-    let read = read_keys(alloc, &mut parser, options, options.most(), room)?;
     let Read {
         mut parsed,
         seen,
@@ -522,6 +523,20 @@ fn read_line<'a, F: Copy, V: Copy, P: Copy, M: Copy, S: Copy>(
         Ended::Asked(asked) => Ok(Line::Asked(asked)),
         Ended::Mistake(mistake) => Ok(refuse(options, parsed, mistake)),
     }
+}
+
+// Reads a whole line by keys.
+fn read_line<'a, F: Copy, V: Copy, P: Copy, M: Copy, S: Copy>(
+    alloc: Global,
+    options: &Options<'a, F, V, P, M, S>,
+    words: Vec<OsString>,
+) -> Result<Line<'a, F, V, P, M, S>, AllocError>
+    ensures { IfOk result (λ line. IsLineRead options.now words.items line) }
+{
+    let room = words.len().min(FIRST_ROOM);
+    let mut parser = options.parser_of(words);
+    let read = read_keys(alloc, &mut parser, options, options.most(), room)?;
+    line_of(options, read)
 }
 
 impl<'a, F, V, P, M, S> Options<'a, F, V, P, M, S> {
