@@ -8,7 +8,8 @@ use Rattle.lexopt_options_spec.specs.Declaration.{Positional}
 use Rattle.lexopt_options_spec.specs.Places.{CanTake, owners, refused_word}
 use Rattle.lexopt_options_spec.proofs.Offered.{cons_cases}
 use Rattle.lexopt_options_spec.proofs.Shares.{greedy_are_shares}
-use Rattle.lexopt_laws.specs.Sample.{files, mode, mode_in_list, new, old, target}
+use Rattle.lexopt_options_spec.proofs.Taken.{some_none}
+use Rattle.lexopt_laws.specs.Sample.{dest, files, mode, mode_in_list, new, old, old_in_list, target}
 use Rattle.lexopt_laws.proofs.WorkedWords.{not_first}
 
 -- ---- there is one list of them
@@ -211,3 +212,43 @@ no_owner_after_fats = record { sound = λ i has. absurd (none i has); complete =
     not_owned i can =
         not_first can.count can.are_places.shares (let longer = can.longer in omega (arith, longer)) can.are_places.are_shares.each
         (subst (λ places. refused_word (mode_in_list ∷ files ∷ []) places (codes "fats" ∷ []) ≡ None) can.are_places.placed can.none)
+
+-- ---- `[OLD] NEW DEST`, where OLD has a list
+
+pub owns_dest : CanOwn (old_in_list ∷ new ∷ dest ∷ []) (codes "b" ∷ []) 2
+owns_dest = record {
+  count = 2;
+  longer = lit< tt;
+  within = lit≤ tt;
+  places = 1 ∷ 2 ∷ [];
+  are_places = record { shares = 0 ∷ 1 ∷ 1 ∷ []; are_shares = greedy_are_shares (old_in_list ∷ new ∷ dest ∷ []) 0 (lit≤ tt); placed = refl };
+  none = refl;
+  here = refl;
+}
+
+second_is_dest : (count i : ℕ) (shares : List ℕ) → 1 < count → AllZip (λ p n. CanTake p.count n) (old_in_list ∷ new ∷ dest ∷ []) shares
+    → refused_word (old_in_list ∷ new ∷ dest ∷ []) (take count (owners 0 shares)) (codes "b" ∷ []) ≡ None → slice_get (take count (owners 0 shares)) 1 ≡ Some i → i ≡ 2
+second_is_dest zero i shares longer each taken is = absurd (omega (arith, longer))
+second_is_dest (suc zero) i shares longer each taken is = absurd (omega (arith, longer))
+second_is_dest (suc (suc n)) i [] longer each taken is = absurd each
+second_is_dest (suc (suc n)) i (k ∷ []) longer each taken is = absurd each.1
+second_is_dest (suc (suc n)) i (k ∷ l ∷ []) longer each taken is = absurd each.1.1
+second_is_dest (suc (suc n)) i (zero ∷ l ∷ m ∷ []) longer each taken is =
+    let new_has : l ≡ 1 = each.1.0 in
+    let dest_has : m ≡ 1 = each.1.1.0 in
+    sym (some_is 2 i (subst (λ b. slice_get (take (suc (suc n)) (owners 0 (0 ∷ 1 ∷ b ∷ []))) 1 ≡ Some i) dest_has (subst (λ a. slice_get (take (suc (suc n)) (owners 0 (0 ∷ a ∷ m ∷ []))) 1 ≡ Some i) new_has is)))
+second_is_dest (suc (suc n)) i (suc k ∷ l ∷ m ∷ []) longer each taken is = absurd (some_none (0, codes "b") taken)
+second_is_dest (suc (suc n)) i (k ∷ l ∷ m ∷ x ∷ shares) longer each taken is = absurd each.1.1.1
+
+pub owner_is_dest : AreOwners (old_in_list ∷ new ∷ dest ∷ []) (codes "b" ∷ []) (2 ∷ [])
+owner_is_dest = record {
+  sound = λ i has. ⊎_elim (λ same. subst (λ n. CanOwn (old_in_list ∷ new ∷ dest ∷ []) (codes "b" ∷ []) n) same owns_dest) (λ no. absurd (none i no)) (cons_cases 2 [] i has);
+  complete = λ i can. subst (λ n. Contains (2 ∷ []) n) (sym (is_dest i can)) (contains_first 2 []);
+  in_order = tt;
+}
+  where
+    is_dest : (i : ℕ) → CanOwn (old_in_list ∷ new ∷ dest ∷ []) (codes "b" ∷ []) i → i ≡ 2
+    is_dest i can =
+        second_is_dest can.count i can.are_places.shares can.longer can.are_places.are_shares.each
+        (subst (λ places. refused_word (old_in_list ∷ new ∷ dest ∷ []) places (codes "b" ∷ []) ≡ None) can.are_places.placed can.none)
+        (subst (λ l. slice_get l 1 ≡ Some i) can.are_places.placed can.here)

@@ -103,6 +103,9 @@ described_files = record files { help = codes "a file to read" }
 abbrev pub mode_in_list : Positional
 mode_in_list = record mode { words = spec.listed (codes "fast" ∷ codes "slow" ∷ []) }
 
+abbrev pub old_in_list : Positional
+old_in_list = record old { words = spec.listed (codes "a" ∷ []) }
+
 abbrev pub form_in_list : Positional
 form_in_list = record {
   placeholder = codes "FORM";
