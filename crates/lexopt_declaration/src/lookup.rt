@@ -1,10 +1,9 @@
-//! Finds an option by its name, and what is declared of the option at an index.
+//! Finds an option by its name, and the names of the option at an index.
 ghost use Rattle.std.specs.Prelude.{◌≡◌, ◌+◌, ◌≤◌, IfSome, IsTrue, Some, length, map};
 ghost use Rattle.std.specs.Prelude.{option_and_then, option_map, position, slice_get};
 ghost use Rattle.lexopt_line_spec.specs.Table as table;
 ghost use Rattle.lexopt_options_spec.specs.Declaration.{index_of};
 ghost use Rattle.lexopt_options_spec.specs.Declaration as spec;
-ghost use Rattle.lexopt_options_spec.specs.Stops.{placeholder_at};
 ghost use Rattle.lexopt_declaration.specs.Models.{option_view};
 ghost use Rattle.lexopt_declaration.specs.Lookups.{help_names, is_help, names_at};
 
@@ -221,18 +220,5 @@ pub fn guessed_long<'a, F, V, M, S>(
         None
     } else {
         option_by_guess(options, guesses, name)
-    }
-}
-
-/// Returns the placeholder of the option at this index; the empty text if it has none.
-pub fn option_placeholder<'a, F, V, M, S>(
-    options: &'a [Declared<'a, F, V, M, S>],
-    index: usize,
-) -> &'a str
-    ensures { result.now ≡ placeholder_at (map option_view options.now) index }
-{
-    match options.get(index) {
-        Some(option) => option.kind.placeholder(),
-        None => "",
     }
 }

@@ -3,18 +3,18 @@
 //! o|output has one value, b|backup has one or none, and x|exclude has several. With lists, m|mode
 //! accepts fast and slow, b|backup old and bak, and x|exclude a and c. The positional MODE with a
 //! list accepts fast and slow, and FORM accepts tar.
-ghost use Rattle.std.specs.Prelude.{◌≡◌, ◌++◌, [], ◌∷◌, ℕ, List, Option, Some, None, true, false};
+ghost use Rattle.std.specs.Prelude.{◌≡◌, ◌++◌, [], ◌∷◌, ℕ, List, Some, None, true, false};
 ghost use Rattle.std.specs.Prelude.{codes, map};
 ghost use Rattle.lexopt_spec.specs.UnreadLine.{BeginsWith, dash, joined, no_tail, rest};
 ghost use Rattle.lexopt_line_spec.specs.Table as spec;
-ghost use Rattle.lexopt_line_spec.specs.Table.{flag, long, many, one, optional, short};
+ghost use Rattle.lexopt_line_spec.specs.Table.{flag, long, many, one, short};
 ghost use Rattle.lexopt_options_spec.specs.Asking.{AskFor, all_but_last, asked_at, asked_by};
 ghost use Rattle.lexopt_options_spec.specs.Asking.{first_asked, parsed_before};
 ghost use Rattle.lexopt_options_spec.specs.Completion.{AreOwners, AreOwnersIn, CanOwn};
 ghost use Rattle.lexopt_options_spec.specs.Completion.{AreText, CanOccur, Completes, IsOpen};
 ghost use Rattle.lexopt_options_spec.specs.Completion.{IsOption, IsText, names_of, spelling};
 ghost use Rattle.lexopt_options_spec.specs.Completion.{EndsWith, Extends, HasRole, IsJoined};
-ghost use Rattle.lexopt_options_spec.specs.Completion.{Role, argument};
+ghost use Rattle.lexopt_options_spec.specs.Completion.{argument};
 ghost use Rattle.lexopt_options_spec.specs.Completion.{role_of, spellings, value_of};
 ghost use Rattle.lexopt_options_spec.specs.Examples.{joined_after};
 ghost use Rattle.lexopt_options_spec.specs.Completion.{value};

@@ -10,7 +10,7 @@ use Rattle.std.proofs.lemmas.Option.{slice_get-map, slice_get-get_or}
 use Rattle.lexopt_options_spec.specs.Completion.{list_of}
 use Rattle.lexopt_options_spec.specs.Declaration as spec
 use Rattle.lexopt_options_spec.specs.Legal as legal
-use Rattle.lexopt_options_spec.specs.Legal.{refused_value}
+use Rattle.lexopt_options_spec.specs.Legal.{is_required, refused_value}
 use Rattle.lexopt_declaration.specs.declared.declaration.Declared.{Declared}
 use Rattle.lexopt_declaration.specs.declared.declaration.Words.{Words}
 use Rattle.lexopt_declaration.specs.declared.declaration.Words.TheVariants as variant
@@ -71,8 +71,12 @@ none_is None false is = absurd (false≢true is)
 none_is (Some i) true is = absurd (false≢true (sym is))
 none_is (Some i) false is = refl
 
-pub viewed : {F V M S : Type 0} (options : List (Declared F V M S)) (i : ℕ) (o : Declared F V M S) → i < length options → o ≡ get_or options i o → slice_get (map option_view options) i ≡ Some (option_view o)
-viewed options i o within is = view_at options i (Some o) (at_place options i o within is)
+-- what a declaration has at an index
+pub view_there : {F V M S : Type 0} (options : List (Declared F V M S)) (i : ℕ) (o : Declared F V M S) → slice_get options i ≡ Some o → slice_get (map option_view options) i ≡ Some (option_view o)
+view_there options i o at = view_at options i (Some o) at
+
+pub required_is : (options : List spec.Declared) (i : ℕ) (o : spec.Declared) → slice_get options i ≡ Some o → is_required options i ≡ o.required
+required_is options i o at = ap (λ x. unwrap_or (option_map (λ p. p.required) x) false) at
 
 -- one value is accepted or not
 pub value_accepted : (options : List spec.Declared) (i : ℕ) (o : spec.Declared) (value : List ℕ) → slice_get options i ≡ Some o → spec.accepts o.words value ≡ true

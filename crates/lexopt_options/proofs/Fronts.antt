@@ -56,7 +56,7 @@ use Rattle.lexopt_options.specs.declared.front.AfterName.{AfterName}
 use Rattle.lexopt_options.specs.declared.front.AfterName.TheVariants as after
 use Rattle.lexopt_options.specs.declared.front.State.{State}
 use Rattle.lexopt_options.specs.declared.front.State.TheVariants as state
-use Rattle.lexopt_options.proofs.Accepted.{first_refused, first_there, none_cond, viewed}
+use Rattle.lexopt_options.proofs.Accepted.{at_place, first_refused, first_there, none_cond, view_there}
 use Rattle.lexopt_options.proofs.Keys.{found_within}
 use Rattle.lexopt_options.proofs.NoValue.{unexpected_never}
 use Rattle.lexopt_options.proofs.ReadKeys.{option_with, seen_more, seen_same}
@@ -283,12 +283,13 @@ same_reached d s u words seen a b m n l k g h a_is m_is l_is g_is has =
 
 -- ---- the option itself
 
-pub index_within : {F V M S : Type 0} (options : List (rust.Declared F V M S)) (name : Name) (index : ℕ) → index_of (map option_view options) name ≡ Some index → index < length options
-index_within options name index found = found_within options name index found
+pub option_at : {F V M S : Type 0} (options os : List (rust.Declared F V M S)) (o : rust.Declared F V M S) (name : Name) (index : ℕ) → os ≡ options → index_of (map option_view options) name ≡ Some index → o ≡ get_or os index o
+    → slice_get options index ≡ Some o
+option_at {F} {V} {M} {S} options os o name index same found is = at_place options index o (found_within options name index found) (subst (λ (l : List (rust.Declared F V M S)). o ≡ get_or l index o) same is)
 
 pub option_there : {F V M S : Type 0} (options os : List (rust.Declared F V M S)) (o : rust.Declared F V M S) (name : Name) (index : ℕ) → os ≡ options → index_of (map option_view options) name ≡ Some index → o ≡ get_or os index o
     → slice_get (map option_view options) index ≡ Some (option_view o)
-option_there {F} {V} {M} {S} options os o name index same found is = viewed options index o (found_within options name index found) (subst (λ (l : List (rust.Declared F V M S)). o ≡ get_or l index o) same is)
+option_there options os o name index same found is = view_there options index o (option_at options os o name index same found is)
 
 -- ---- where the reading ends
 

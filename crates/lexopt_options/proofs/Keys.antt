@@ -1,11 +1,11 @@
 -- What is read, by keys.
-use Rattle.std.proofs.Common.{◌≡◌, ◌<◌, ℕ, List, [], ◌∷◌, ◌++◌, map, length, get_or, Option, Some, None, Vec, slice_get, refl, sym, ap, ◌∙◌, arith}
+use Rattle.std.proofs.Common.{◌≡◌, ◌<◌, ℕ, List, [], ◌∷◌, ◌++◌, map, length, Option, Some, None, Vec, slice_get, refl, ap, ◌∙◌, arith}
 use Rattle.std.specs.Option.{option_map}
-use Rattle.std.specs.Prelude.{option_and_then, unwrap_or}
+use Rattle.std.specs.Prelude.{option_and_then}
 use Rattle.std.proofs.lemmas.List.{length-map}
 use Rattle.std.proofs.lemmas.List.Quantifiers.{position-Some}
-use Rattle.std.proofs.lemmas.Option.{slice_get-map, slice_get-get_or}
-use Rattle.lexopt_line_spec.specs.Table.{Name, flag}
+use Rattle.std.proofs.lemmas.Option.{slice_get-map}
+use Rattle.lexopt_line_spec.specs.Table.{Name}
 use Rattle.lexopt_options_spec.specs.Declaration as spec
 use Rattle.lexopt_options_spec.specs.Declaration.{has_name, index_of}
 use Rattle.lexopt_options_spec.specs.Asking.{all_but_last, asked_at, asked_by, first_asked, or_asked}
@@ -21,23 +21,16 @@ use Rattle.lexopt_options.specs.declared.parsed.ByKey.TheVariants as told
 use Rattle.lexopt_options.specs.Declarations.{options_of}
 use Rattle.lexopt_options.specs.declared.options.Options.{Options}
 use Rattle.lexopt_options.specs.Keys.{AreParsedAs, HasKind, IsParsedAs, IsByKey}
-use Rattle.lexopt_options.specs.Kinds.{kind_at}
 
 -- ---- the option at an index
 
-has_kind : {F V M S : Type 0} (options : List (Declared F V M S)) (i : ℕ) (o : Declared F V M S) (k : Kind F V M S) → i < length options → o ≡ get_or options i o → o.kind ≡ k → HasKind options i k
-has_kind options i o k inside is k_is = ap (option_map (λ p. p.kind)) (slice_get-get_or options i o inside) ∙ ap (λ x. Some x) (ap (λ p. p.kind) (sym is) ∙ k_is)
+has_kind : {F V M S : Type 0} (options : List (Declared F V M S)) (i : ℕ) (o : Declared F V M S) (k : Kind F V M S) → slice_get options i ≡ Some o → o.kind ≡ k → HasKind options i k
+has_kind options i o k at k_is = ap (option_map (λ p. p.kind)) at ∙ ap (λ x. Some x) k_is
 
 kinds_are : {F V M S : Type 0} (o : Option (Declared F V M S)) (k : Kind F V M S) → option_map (λ p. p.kind) o ≡ Some k
     → (option_map (λ p. p.kind) (option_map option_view o) ≡ Some (kind_of k)) × (option_and_then (λ p. p.asks) (option_map option_view o) ≡ asked_of k)
 kinds_are None k is = absurd (let e : None ≡ Some k = is in cc)
 kinds_are (Some o) k is = let e : o.kind ≡ k = cc in (ap (λ x. Some (kind_of x)) e, ap asked_of e)
-
--- the kind of the option, as the calls for its values take it
-pub kind_is : {F V M S : Type 0} (options : List (Declared F V M S)) (i : ℕ) (o : Declared F V M S) (k : Kind F V M S) → i < length options → o ≡ get_or options i o → o.kind ≡ k
-    → kind_of k ≡ kind_at (map option_view options) i
-kind_is options i o k inside at is =
-    sym (ap (λ x. unwrap_or x flag) (ap (option_map (λ p. p.kind)) (slice_get-map option_view options i) ∙ (kinds_are (slice_get options i) k (has_kind options i o k inside at is)).0))
 
 asked_is : {F V M S : Type 0} (options : List (Declared F V M S)) (i : ℕ) (k : Kind F V M S) → HasKind options i k → asked_at (map option_view options) i ≡ asked_of k
 asked_is options i k has = ap (option_and_then (λ p. p.asks)) (slice_get-map option_view options i) ∙ (kinds_are (slice_get options i) k has).1
@@ -50,29 +43,29 @@ found_within (o ∷ os) name i found =
 
 -- ---- what one thing means
 
-pub tells_flag : {F V P M S : Type 0} (own : Options F V P M S) (i : ℕ) (o : Declared F V M S) (key : F) → i < length (options_of own) → o ≡ get_or (options_of own) i o → o.kind ≡ kind.Flag key
+pub tells_flag : {F V P M S : Type 0} (own : Options F V P M S) (i : ℕ) (o : Declared F V M S) (key : F) → slice_get (options_of own) i ≡ Some o → o.kind ≡ kind.Flag key
     → IsByKey {P = P} (options_of own) (legal.option i None) (told.Parsed (parsed.Flag key))
-tells_flag own i o key inside at is = let has = has_kind (options_of own) i o (kind.Flag key) inside at is in (asked_is (options_of own) i (kind.Flag key) has, (i, refl, has))
+tells_flag own i o key at is = let has = has_kind (options_of own) i o (kind.Flag key) at is in (asked_is (options_of own) i (kind.Flag key) has, (i, refl, has))
 
-pub tells_value : {F V P M S : Type 0} (own : Options F V P M S) (i : ℕ) (o : Declared F V M S) (key : V) (p : _) (word : _) → i < length (options_of own) → o ≡ get_or (options_of own) i o → o.kind ≡ kind.Value key p
+pub tells_value : {F V P M S : Type 0} (own : Options F V P M S) (i : ℕ) (o : Declared F V M S) (key : V) (p : _) (word : _) → slice_get (options_of own) i ≡ Some o → o.kind ≡ kind.Value key p
     → IsByKey {P = P} (options_of own) (legal.option i (Some word)) (told.Parsed (parsed.Value key word))
-tells_value own i o key p word inside at is = let has = has_kind (options_of own) i o (kind.Value key p) inside at is in (asked_is (options_of own) i (kind.Value key p) has, (i, p, refl, has))
+tells_value own i o key p word at is = let has = has_kind (options_of own) i o (kind.Value key p) at is in (asked_is (options_of own) i (kind.Value key p) has, (i, p, refl, has))
 
-pub tells_maybe : {F V P M S : Type 0} (own : Options F V P M S) (i : ℕ) (o : Declared F V M S) (key : M) (p : _) (value : _) → i < length (options_of own) → o ≡ get_or (options_of own) i o → o.kind ≡ kind.Maybe key p
+pub tells_maybe : {F V P M S : Type 0} (own : Options F V P M S) (i : ℕ) (o : Declared F V M S) (key : M) (p : _) (value : _) → slice_get (options_of own) i ≡ Some o → o.kind ≡ kind.Maybe key p
     → IsByKey {P = P} (options_of own) (legal.option i value) (told.Parsed (parsed.Maybe key value))
-tells_maybe own i o key p value inside at is = let has = has_kind (options_of own) i o (kind.Maybe key p) inside at is in (asked_is (options_of own) i (kind.Maybe key p) has, (i, p, refl, has))
+tells_maybe own i o key p value at is = let has = has_kind (options_of own) i o (kind.Maybe key p) at is in (asked_is (options_of own) i (kind.Maybe key p) has, (i, p, refl, has))
 
-pub tells_values : {F V P M S : Type 0} (own : Options F V P M S) (i : ℕ) (o : Declared F V M S) (key : S) (p : _) (words : Vec _ _) → i < length (options_of own) → o ≡ get_or (options_of own) i o → o.kind ≡ kind.Values key p
+pub tells_values : {F V P M S : Type 0} (own : Options F V P M S) (i : ℕ) (o : Declared F V M S) (key : S) (p : _) (words : Vec _ _) → slice_get (options_of own) i ≡ Some o → o.kind ≡ kind.Values key p
     → IsByKey {P = P} (options_of own) (legal.several i words.items) (told.Parsed (parsed.Values key words))
-tells_values own i o key p words inside at is = let has = has_kind (options_of own) i o (kind.Values key p) inside at is in (asked_is (options_of own) i (kind.Values key p) has, (i, p, refl, has))
+tells_values own i o key p words at is = let has = has_kind (options_of own) i o (kind.Values key p) at is in (asked_is (options_of own) i (kind.Values key p) has, (i, p, refl, has))
 
-pub tells_help : {F V P M S : Type 0} (own : Options F V P M S) (i : ℕ) (o : Declared F V M S) → i < length (options_of own) → o ≡ get_or (options_of own) i o → o.kind ≡ kind.Help
+pub tells_help : {F V P M S : Type 0} (own : Options F V P M S) (i : ℕ) (o : Declared F V M S) → slice_get (options_of own) i ≡ Some o → o.kind ≡ kind.Help
     → IsByKey {P = P} (options_of own) (legal.option i None) (told.Asked asked.Help)
-tells_help own i o inside at is = asked_is (options_of own) i kind.Help (has_kind (options_of own) i o kind.Help inside at is)
+tells_help own i o at is = asked_is (options_of own) i kind.Help (has_kind (options_of own) i o kind.Help at is)
 
-pub tells_version : {F V P M S : Type 0} (own : Options F V P M S) (i : ℕ) (o : Declared F V M S) (text : _) → i < length (options_of own) → o ≡ get_or (options_of own) i o → o.kind ≡ kind.Version text
+pub tells_version : {F V P M S : Type 0} (own : Options F V P M S) (i : ℕ) (o : Declared F V M S) (text : _) → slice_get (options_of own) i ≡ Some o → o.kind ≡ kind.Version text
     → IsByKey {P = P} (options_of own) (legal.option i None) (told.Asked (asked.Version text))
-tells_version own i o text inside at is = asked_is (options_of own) i (kind.Version text) (has_kind (options_of own) i o (kind.Version text) inside at is)
+tells_version own i o text at is = asked_is (options_of own) i (kind.Version text) (has_kind (options_of own) i o (kind.Version text) at is)
 
 -- ---- what a list means
 

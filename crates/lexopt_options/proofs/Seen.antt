@@ -1,5 +1,5 @@
 -- Which required options were read.
-use Rattle.std.proofs.Common.{◌≡◌, ◌<◌, ◌≤◌, ◌||◌, Bool, ℕ, zero, suc, false, true, List, [], ◌∷◌, length, map, get_or, Option, Some, None, refl, sym, subst, ap, arith}
+use Rattle.std.proofs.Common.{◌≡◌, ◌<◌, ◌||◌, Bool, ℕ, zero, suc, false, true, List, [], ◌∷◌, length, map, get_or, Option, Some, None, refl, sym, subst, ap, arith}
 use Rattle.std.specs.List.{list_any}
 use Rattle.std.specs.Option.{MatchOption}
 use Rattle.std.proofs.lemmas.Bool.{false≢true}
@@ -17,11 +17,6 @@ pub required_here : {F V M S : Type 0} (options : List (Declared F V M S)) (i : 
 required_here [] i x within is = absurd (omega (arith, within))
 required_here (o ∷ os) zero x within is = ap (λ p. p.required) (sym is)
 required_here (o ∷ os) (suc i) x within is = required_here os i x (omega (arith, within)) is
-
-pub required_never : {F V M S : Type 0} (options : List (Declared F V M S)) (i : ℕ) → length options ≤ i → is_required (map option_view options) i ≡ false
-required_never [] i past = refl
-required_never (o ∷ os) zero past = absurd (omega (arith, past))
-required_never (o ∷ os) (suc i) past = required_never os i (omega (arith, past))
 
 pub required_within : {F V M S : Type 0} (options : List (Declared F V M S)) (i : ℕ) → is_required (map option_view options) i ≡ true → i < length options
 required_within [] i is = absurd (false≢true is)

@@ -285,7 +285,7 @@ pub(crate) fn read_front<F, V, P, M, S>(
         match read_next(parser, options)? {
             Outcome::Option(index) => {
                 let option = &declared[index];
-                note(options, index, &mut seen)?;
+                note(option.required, index, &mut seen)?;
                 unasked = are_both(unasked, asks_nothing(option));
                 match read_after_name(alloc, parser, option, index)? {
                     AfterName::Values {

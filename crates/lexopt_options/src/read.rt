@@ -1,6 +1,6 @@
 //! Reads a whole line by a declaration. `leading.rt` reads only the leading options.
 ghost use Rattle.std.specs.Prelude.{◌≡◌, ◌≢◌, ◌≤◌, ◌↔◌, ◌∷◌, ◌++◌, ℕ, List, [], IfOk, OnOk};
-ghost use Rattle.std.specs.Prelude.{IsTrue, None, Option, Some, false, length, map};
+ghost use Rattle.std.specs.Prelude.{IsTrue, None, Option, Some, false, length, map, slice_get, true};
 ghost use Rattle.std.specs.List.{list_any};
 ghost use Rattle.std.specs.Option.{MatchOption};
 ghost use Rattle.lexopt_spec.specs.UnreadLine.{IsLine, Tail, UnreadLine};
@@ -8,10 +8,10 @@ ghost use Rattle.lexopt_spec.specs.Steps as steps;
 ghost use Rattle.lexopt_spec.specs.Steps.{Next};
 ghost use Rattle.lexopt_line_spec.specs.Readings.{option_reply, start};
 ghost use Rattle.lexopt_line_spec.specs.Table as table;
-ghost use Rattle.lexopt_options_spec.specs.Declaration.{has, index_of};
+ghost use Rattle.lexopt_options_spec.specs.Declaration.{Declaration, has, index_of, is_sound};
 ghost use Rattle.lexopt_options_spec.specs.Asking.{asked_by};
 ghost use Rattle.lexopt_options_spec.specs.Legal as legal;
-ghost use Rattle.lexopt_options_spec.specs.Legal.{IsWithin, counts, is_required, most};
+ghost use Rattle.lexopt_options_spec.specs.Legal.{IsWithin, counts, most};
 ghost use Rattle.lexopt_options_spec.specs.Legal.{refused_value};
 ghost use Rattle.lexopt_options_spec.specs.Places.{least};
 ghost use Rattle.lexopt_options_spec.specs.Stops as stops;
@@ -41,7 +41,7 @@ use lexopt_base::parser::{Found, Parser};
 use lexopt_base::refusal::Refusal;
 use lexopt_declaration::declaration as declared;
 use lexopt_declaration::declaration::{Declared, Names};
-use lexopt_declaration::lookup::{help_names_of, index_of_short, option_placeholder};
+use lexopt_declaration::lookup::{help_names_of, index_of_short};
 use lexopt_declaration::nearest::{hinted_names, long_names};
 use lexopt_declaration::positionals::argument_placeholder;
 use lexopt_items::values::read_several;
@@ -90,52 +90,44 @@ pub struct Read<'a, F, V, P, M, S> {
     pub ended: Ended<'a>,
 }
 
-// The mistake that the option at this index, which was just read, has no value.
-fn missing_value<'a, F, V, P, M, S>(
-    options: &Options<'a, F, V, P, M, S>,
-    index: usize,
+// The mistake that this option, which was just read, has no value.
+fn missing_value<'a, F, V, M, S>(
+    option: &Declared<'a, F, V, M, S>,
     refused: Refusal,
 ) -> Result<Mistake<'a>, AllocError>
     requires { (kind : Kind) × (u v : UnreadLine) × (name : table.Name)
         × Next u (option_reply name) v × (kind ≢ Kind.Flag) × ValuesEndBy kind v refused }
-    ensures { IfOk result (λ mistake. (kind : Kind) (u v : UnreadLine)
-        (name : table.Name) → Next u (option_reply name) v
-        → index_of (declaration_of options.now).options name ≡ Some index
-        → kind_view kind ≡ kinds.kind_at (declaration_of options.now).options index
-        → ValuesEndBy kind v refused → StopsAtOption (declaration_of options.now) u mistake) }
+    ensures { IfOk result (λ mistake. (d : Declaration) (index : ℕ) (kind : Kind)
+        (u v : UnreadLine) (name : table.Name) → is_sound d.options ≡ true
+        → slice_get d.options index ≡ Some (option_view option.now)
+        → Next u (option_reply name) v → index_of d.options name ≡ Some index
+        → kind_view kind ≡ kinds.kind_at d.options index
+        → ValuesEndBy kind v refused → StopsAtOption d u mistake) }
 {
     match refused {
-        Refusal::MissingValue(option) => {
-            let option = option.unwrap();
-            let placeholder = option_placeholder(options.options(), index);
-            Ok(Mistake::MissingValue {
-                option,
-                placeholder,
-            })
-        }
+        Refusal::MissingValue(name) => Ok(Mistake::MissingValue {
+            option: name.unwrap(),
+            placeholder: option.kind.placeholder(),
+        }),
         Refusal::OutOfMemory => Err(AllocError),
         Refusal::UnexpectedValue { .. } => unreachable!(),
     }
 }
 
-// Reads the values of the option at this index, which was just read, and returns it by its key.
+// Reads the values of this option, whose name was just read, and returns the option by its key.
 // `Err` is the mistake that it has no value, or one that it does not accept.
-pub fn read_by_key<'a, F: Copy, V: Copy, P: Copy, M: Copy, S: Copy>(
+pub fn read_by_key<'a, F: Copy, V: Copy, P, M: Copy, S: Copy>(
     alloc: Global,
     parser: &mut Parser,
-    options: &Options<'a, F, V, P, M, S>,
-    index: usize,
+    option: &'a Declared<'a, F, V, M, S>,
 ) -> Result<Result<ByKey<'a, F, V, P, M, S>, Mistake<'a>>, AllocError>
-    requires { (u : UnreadLine) × (name : table.Name) × Next u (option_reply name) parser.old
-        × (index_of (declaration_of options.now).options name ≡ Some index) }
-    ensures { IfOk result (λ read. (count : ℕ) (u : UnreadLine) (name : table.Name)
+    requires { (u : UnreadLine) × (name : table.Name) × Next u (option_reply name) parser.old }
+    ensures { IfOk result (λ read. (o : Options F V P M S) (index count : ℕ) (u : UnreadLine)
+        (name : table.Name) → slice_get (options_of o) index ≡ Some option.now
         → Next u (option_reply name) parser.old
-        → index_of (declaration_of options.now).options name ≡ Some index
-        → IsReadByKey (declaration_of options.now) (options_of options.now) index count u read
-        parser.new) }
+        → index_of (declaration_of o).options name ≡ Some index
+        → IsReadByKey (declaration_of o) (options_of o) index count u read parser.new) }
 {
-    let declared = options.options();
-    let option = &declared[index];
     match option.kind {
         declared::Kind::Flag(key) => Ok(Ok(ByKey::Parsed(Parsed::Flag(key)))),
         declared::Kind::Help => Ok(Ok(ByKey::Asked(Asked::Help))),
@@ -148,7 +140,7 @@ pub fn read_by_key<'a, F: Copy, V: Copy, P: Copy, M: Copy, S: Copy>(
                     Ok(Err(invalid_value(option, value)))
                 }
             }
-            Err(refused) => Ok(Err(missing_value(options, index, refused)?)),
+            Err(refused) => Ok(Err(missing_value(option, refused)?)),
         },
         declared::Kind::Maybe(key, _) => match parser.optional_value() {
             Some(value) => {
@@ -165,7 +157,7 @@ pub fn read_by_key<'a, F: Copy, V: Copy, P: Copy, M: Copy, S: Copy>(
                 Some(place) => Ok(Err(invalid_value(option, values.swap_remove(place)))),
                 None => Ok(Ok(ByKey::Parsed(Parsed::Values(key, values)))),
             },
-            Err(refused) => Ok(Err(missing_value(options, index, refused)?)),
+            Err(refused) => Ok(Err(missing_value(option, refused)?)),
         },
     }
 }
@@ -322,20 +314,13 @@ fn add_index(index: usize, seen: &mut Vec<usize>) -> Result<(), AllocError>
 }
 
 // Adds the index of an option that was read to `seen`, if the option is required.
-pub fn note<F, V, P, M, S>(
-    options: &Options<'_, F, V, P, M, S>,
-    index: usize,
-    seen: &mut Vec<usize>,
-) -> Result<(), AllocError>
-    ensures { OnOk result (seen.new.items
-        ≡ noted (is_required (declaration_of options.now).options index) index seen.old.items) }
+pub fn note(required: bool, index: usize, seen: &mut Vec<usize>) -> Result<(), AllocError>
+    ensures { OnOk result (seen.new.items ≡ noted required index seen.old.items) }
 {
-    if !options.has_required() {
-        return Ok(());
-    }
-    match options.options().get(index) {
-        Some(option) if option.required => add_index(index, seen),
-        _ => Ok(()),
+    if required {
+        add_index(index, seen)
+    } else {
+        Ok(())
     }
 }
 
@@ -433,19 +418,23 @@ pub fn read_keys<'a, F: Copy, V: Copy, P: Copy, M: Copy, S: Copy>(
         → HasEnded options.now words limit read.count read.seen.items read.parsed.items read.ended
         parser.new) }
 {
+    let declared = options.options();
     let mut parsed = Vec::with_capacity(alloc, room)?;
     let mut seen = Vec::new(alloc);
     let mut count = 0usize;
     let ended = loop {
         match read_next(parser, options)? {
-            Outcome::Option(index) => match read_by_key(alloc, parser, options, index)? {
-                Ok(ByKey::Parsed(own)) => {
-                    parsed.push(own)?;
-                    note(options, index, &mut seen)?;
+            Outcome::Option(index) => {
+                let option = &declared[index];
+                match read_by_key(alloc, parser, option)? {
+                    Ok(ByKey::Parsed(own)) => {
+                        parsed.push(own)?;
+                        note(option.required, index, &mut seen)?;
+                    }
+                    Ok(ByKey::Asked(asked)) => break ask(parser, options, asked)?,
+                    Err(mistake) => break Ended::Mistake(mistake),
                 }
-                Ok(ByKey::Asked(asked)) => break ask(parser, options, asked)?,
-                Err(mistake) => break Ended::Mistake(mistake),
-            },
+            }
             Outcome::Positional(word) => {
                 if is_full(limit, count) {
                     break Ended::Positional(word);

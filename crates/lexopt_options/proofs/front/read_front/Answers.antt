@@ -5,9 +5,12 @@ use Rattle.lexopt_declaration.specs.Models.{option_view}
 use Rattle.lexopt_options_spec.specs.Declaration.{table}
 use Rattle.lexopt_options_spec.specs.States.{is_further, state_at_end}
 use Rattle.lexopt_options.specs.Declarations.{declaration_of, options_of}
+use Rattle.lexopt_options.specs.Reading.{noted}
 use Rattle.lexopt_options.specs.States.{state_view}
+use Rattle.lexopt_options.proofs.Accepted.{required_is}
 use Rattle.lexopt_options.proofs.Beginnings.{AreLegal, end_begun, lacking_begun, missing_begun, rest_begun, surplus_begun, undeclared_begun, unexpected_begun}
-use Rattle.lexopt_options.proofs.Fronts.{has_nothing, has_option, has_positional, index_within, option_there, same_reached, starts}
+use Rattle.lexopt_options.proofs.Keys.{found_within}
+use Rattle.lexopt_options.proofs.Fronts.{has_nothing, has_option, has_positional, option_there, same_reached, starts}
 use Rattle.lexopt_options.proofs.front.read_front.Goals as goal
 
 pub loop-last-init : goal.loop-last-init
@@ -16,13 +19,13 @@ loop-last-init g c = has_nothing (declaration_of c.args.options.now) c.args.pars
 pub offset_bounds-declared-index : goal.offset_bounds-declared-index
 offset_bounds-declared-index g c =
     let next = rw c.in-Option.is at c.in_ok-index.ensures in
-    let within = index_within (options_of c.args.options.now) next.0 c.in-Option.index next.2 in
+    let within = found_within (options_of c.args.options.now) next.0 c.in-Option.index next.2 in
     let same = ap (λ l. length l) c.options-declared.ensures.same in omega (arith, within, same)
 
 pub bounds-declared-index : goal.bounds-declared-index
 bounds-declared-index g c =
     let next = rw c.in-Option.is at c.in_ok-index.ensures in
-    let within = index_within (options_of c.args.options.now) next.0 c.in-Option.index next.2 in
+    let within = found_within (options_of c.args.options.now) next.0 c.in-Option.index next.2 in
     let same = ap (λ l. length l) c.options-declared.ensures.same in omega (arith, within, same)
 
 pub loop-last-smaller-in-Values : goal.loop-last-smaller-in-Values
@@ -32,7 +35,7 @@ loop-last-smaller-in-Values g c =
     let at = option_there (options_of o) c.options-declared.result.now c.index-declared-index.result next.0 c.in-Option.index c.options-declared.ensures.same next.2 c.index-declared-index.is in
     let given = rw c.in-Values.is at c.in_ok-accepted-in-Option.ensures (declaration_of o) at in
     (has_option (declaration_of o) c.args.parser.now c.loop-last.parser c.read_next.new.parser c.read_after_name.new.parser c.loop-last.words.items c.loop-last.seen.items c.note.new.seen.items c.loop-last.all_accepted c.in-Values.accepted c.loop-last.unasked c.asks_nothing.result c.loop-last.last c.loop-last.going_on
-    c.in-Values.first c.in-Values.goes_on next.0 c.in-Option.index (option_view c.index-declared-index.result) o.sound c.loop-last.invariant next.1 next.2 at c.asks_nothing.ensures given c.in_ok-note-in-Option.ensures).1
+    c.in-Values.first c.in-Values.goes_on next.0 c.in-Option.index (option_view c.index-declared-index.result) o.sound c.loop-last.invariant next.1 next.2 at c.asks_nothing.ensures given (c.in_ok-note-in-Option.ensures ∙ ap (λ b. noted b c.in-Option.index c.loop-last.seen.items) (sym (required_is (declaration_of o).options c.in-Option.index _ at)))).1
 
 pub loop-last-preserved-in-Values : goal.loop-last-preserved-in-Values
 loop-last-preserved-in-Values g c =
@@ -42,7 +45,7 @@ loop-last-preserved-in-Values g c =
     let given = rw c.in-Values.is at c.in_ok-accepted-in-Option.ensures (declaration_of o) at in
     same_reached (declaration_of o) c.args.parser.now c.read_after_name.new.parser c.loop-last.words.items c.note.new.seen.items _ _ _ _ _ _ _ _ c.are_both-all_accepted.ensures c.are_both-unasked.ensures c.with_index-last.ensures c.index_if-going_on.ensures
     (has_option (declaration_of o) c.args.parser.now c.loop-last.parser c.read_next.new.parser c.read_after_name.new.parser c.loop-last.words.items c.loop-last.seen.items c.note.new.seen.items c.loop-last.all_accepted c.in-Values.accepted c.loop-last.unasked c.asks_nothing.result c.loop-last.last c.loop-last.going_on
-    c.in-Values.first c.in-Values.goes_on next.0 c.in-Option.index (option_view c.index-declared-index.result) o.sound c.loop-last.invariant next.1 next.2 at c.asks_nothing.ensures given c.in_ok-note-in-Option.ensures).0
+    c.in-Values.first c.in-Values.goes_on next.0 c.in-Option.index (option_view c.index-declared-index.result) o.sound c.loop-last.invariant next.1 next.2 at c.asks_nothing.ensures given (c.in_ok-note-in-Option.ensures ∙ ap (λ b. noted b c.in-Option.index c.loop-last.seen.items) (sym (required_is (declaration_of o).options c.in-Option.index _ at)))).0
 
 pub returns-in-Lacks : goal.returns-in-Lacks
 returns-in-Lacks g c = λ words is.

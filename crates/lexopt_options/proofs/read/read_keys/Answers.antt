@@ -8,7 +8,10 @@ use Rattle.lexopt_options_spec.specs.Stops as stops
 use Rattle.lexopt_options.specs.declared.parsed.ByKey.TheVariants as told
 use Rattle.lexopt_options.specs.Declarations.{declaration_of, options_of, positionals_of}
 use Rattle.lexopt_options.specs.Keys.{AllFirst, AreParsedAs, HasKey, positional_keys}
-use Rattle.lexopt_options.proofs.Keys.{none_before}
+use Rattle.lexopt_options.specs.Reading.{noted}
+use Rattle.lexopt_options.proofs.Accepted.{required_is, view_there}
+use Rattle.lexopt_options.proofs.Fronts.{option_at}
+use Rattle.lexopt_options.proofs.Keys.{found_within, none_before}
 use Rattle.lexopt_options.proofs.KeysGiven.{first_kept}
 use Rattle.lexopt_options.proofs.ReadKeys.{at_start, count_within, has_option, has_positional, starts, stopped_there}
 use Rattle.lexopt_options.proofs.ReadNext.{has_room, more_within, positional_parsed}
@@ -24,22 +27,41 @@ overflow_add-count g c =
     let small = count_within c.args.options.now c.args.limit c.args.parser.now c.loop-seen.parser c.loop-seen.count c.loop-seen.seen.items c.loop-seen.parsed.items c.loop-seen.invariant in
     omega (arith, small, c.loop-seen.parsed.small)
 
+pub offset_bounds-declared-index : goal.offset_bounds-declared-index
+offset_bounds-declared-index g c =
+    let next = rw c.in-Option.is at c.in_ok-index.ensures in
+    let within = found_within (options_of c.args.options.now) next.0 c.in-Option.index next.2 in
+    let same = ap (λ l. length l) c.options-declared.ensures.same in omega (arith, within, same)
+
+pub bounds-declared-index : goal.bounds-declared-index
+bounds-declared-index g c =
+    let next = rw c.in-Option.is at c.in_ok-index.ensures in
+    let within = found_within (options_of c.args.options.now) next.0 c.in-Option.index next.2 in
+    let same = ap (λ l. length l) c.options-declared.ensures.same in omega (arith, within, same)
+
+pub read_by_key-requires : goal.read_by_key-requires
+read_by_key-requires g c = let next = rw c.in-Option.is at c.in_ok-index.ensures in (c.loop-seen.parser, next.0, next.1)
+
 pub loop-seen-smaller-in_ok-note-in-Ok-Parsed : goal.loop-seen-smaller-in_ok-note-in-Ok-Parsed
 loop-seen-smaller-in_ok-note-in-Ok-Parsed g c =
+    let o = c.args.options.now in
     let next = rw c.in-Option.is at c.in_ok-index.ensures in
+    let at = option_at (options_of o) c.options-declared.result.now c.index-declared-index.result next.0 c.in-Option.index c.options-declared.ensures.same next.2 c.index-declared-index.is in
     let is : c.in_ok-own-in-Option.field-0 ≡ Ok (told.Parsed c.in-Ok-Parsed.own) = c.in-Ok-Parsed.is ∙ ap Ok c.in-Ok-Parsed.field-0-is in
-    let read = rw is at c.in_ok-own-in-Option.ensures c.loop-seen.count c.loop-seen.parser next.0 next.1 next.2 in
+    let read = rw is at c.in_ok-own-in-Option.ensures o c.in-Option.index c.loop-seen.count c.loop-seen.parser next.0 at next.1 next.2 in
     read.1.shorter
 
 pub loop-seen-preserved-in_ok-note-in-Ok-Parsed : goal.loop-seen-preserved-in_ok-note-in-Ok-Parsed
 loop-seen-preserved-in_ok-note-in-Ok-Parsed g c =
     let o = c.args.options.now in
     let next = rw c.in-Option.is at c.in_ok-index.ensures in
+    let at = option_at (options_of o) c.options-declared.result.now c.index-declared-index.result next.0 c.in-Option.index c.options-declared.ensures.same next.2 c.index-declared-index.is in
     let is : c.in_ok-own-in-Option.field-0 ≡ Ok (told.Parsed c.in-Ok-Parsed.own) = c.in-Ok-Parsed.is ∙ ap Ok c.in-Ok-Parsed.field-0-is in
-    let read = rw is at c.in_ok-own-in-Option.ensures c.loop-seen.count c.loop-seen.parser next.0 next.1 next.2 in
+    let read = rw is at c.in_ok-own-in-Option.ensures o c.in-Option.index c.loop-seen.count c.loop-seen.parser next.0 at next.1 next.2 in
     has_option o c.args.limit c.args.parser.now c.loop-seen.parser c.read_by_key.new.parser c.loop-seen.count c.in-Option.index c.loop-seen.seen.items c.note.new.seen.items c.loop-seen.parsed.items c.push.new.self.items read.0 c.in-Ok-Parsed.own
     c.loop-seen.invariant read.1 read.2.0 read.2.1 read.3 read.4 read.5
-    c.in_ok-note-in-Ok-Parsed.ensures c.in_ok-push-in-Ok-Parsed.ensures.items
+    (c.in_ok-note-in-Ok-Parsed.ensures ∙ ap (λ b. noted b c.in-Option.index c.loop-seen.seen.items) (sym (required_is (declaration_of o).options c.in-Option.index _ (view_there (options_of o) c.in-Option.index c.index-declared-index.result at))))
+    c.in_ok-push-in-Ok-Parsed.ensures.items
 
 pub first_key-key-requires : goal.first_key-key-requires
 first_key-key-requires g c =
@@ -69,15 +91,17 @@ returns g c = λ words is.
     elim c.match-branch-3.branch [
       | in-Option+in_ok-own-in-Option+in-Ok-Asked+in_ok-ended-in-Ok-Asked w ↦
           let next = rw w.in-Option.is at c.in_ok-index.ensures in
+          let at = option_at (options_of o) c.options-declared.result.now w.index-declared-index.result next.0 w.in-Option.index c.options-declared.ensures.same next.2 w.index-declared-index.is in
           let is : w.in_ok-own-in-Option.field-0 ≡ Ok (told.Asked w.in-Ok-Asked.asked) = w.in-Ok-Asked.is ∙ ap Ok w.in-Ok-Asked.field-0-is in
-          let read = rw is at w.in_ok-own-in-Option.ensures c.loop-seen.count c.loop-seen.parser next.0 next.1 next.2 in
+          let read = rw is at w.in_ok-own-in-Option.ensures o w.in-Option.index c.loop-seen.count c.loop-seen.parser next.0 at next.1 next.2 in
           rw w.ended-is (rw w.parsed-is (rw w.parser-is
           (w.in_ok-ended-in-Ok-Asked.ensures words c.args.limit c.loop-seen.parser c.loop-seen.count c.loop-seen.seen.items c.loop-seen.parsed.items read.0 had read.1 read.3 read.5 read.2)))
       | in-Option+in_ok-own-in-Option+in-Err w ↦
           let next = rw w.in-Option.is at c.in_ok-index.ensures in
+          let at = option_at (options_of o) c.options-declared.result.now w.index-declared-index.result next.0 w.in-Option.index c.options-declared.ensures.same next.2 w.index-declared-index.is in
           rw w.ended-is (rw w.parsed-is
           (stopped_there o c.args.limit words c.loop-seen.parser c.loop-seen.count c.loop-seen.seen.items c.loop-seen.parsed.items _ had
-          (rw w.in-Err.is at w.in_ok-own-in-Option.ensures c.loop-seen.count c.loop-seen.parser next.0 next.1 next.2)))
+          (rw w.in-Err.is at w.in_ok-own-in-Option.ensures o w.in-Option.index c.loop-seen.count c.loop-seen.parser next.0 at next.1 next.2)))
       | in-Positional+then-is_full w ↦
           rw w.ended-is (rw w.parsed-is (rw w.parser-is
           (c.loop-seen.parser, had, (rw w.in-Positional.is at c.in_ok-index.ensures), w.is_full.ensures.0 w.if-is_full.true)))
