@@ -215,7 +215,7 @@ no_owner_after_fats = record { sound = λ i has. absurd (none i has); complete =
 
 -- ---- `[OLD] NEW DEST`, where OLD has a list
 
-pub owns_dest : CanOwn (old_in_list ∷ new ∷ dest ∷ []) (codes "b" ∷ []) 2
+owns_dest : CanOwn (old_in_list ∷ new ∷ dest ∷ []) (codes "b" ∷ []) 2
 owns_dest = record {
   count = 2;
   longer = lit< tt;

@@ -1,8 +1,8 @@
 //! Worked examples of declared options: what the definitions mean for short lines and small
 //! declarations, and what they exclude. Most have the options of `Sample`: v|verbose is a flag,
 //! o|output has one value, b|backup has one or none, and x|exclude has several. With lists, m|mode
-//! accepts fast and slow, b|backup old and bak, and x|exclude a and c. The positional MODE with a
-//! list accepts fast and slow, and FORM accepts tar.
+//! accepts fast and slow, b|backup old and bak, and x|exclude a and c. Of the positionals with
+//! lists, MODE accepts fast and slow, OLD accepts a, and FORM accepts tar.
 ghost use Rattle.std.specs.Prelude.{◌≡◌, ◌++◌, [], ◌∷◌, ℕ, List, Some, None, true, false};
 ghost use Rattle.std.specs.Prelude.{codes, map};
 ghost use Rattle.lexopt_spec.specs.UnreadLine.{BeginsWith, dash, joined, no_tail, rest};
@@ -54,8 +54,8 @@ ghost use Rattle.lexopt_laws.specs.Sample.{backup, described_files, exclude};
 ghost use Rattle.lexopt_laws.specs.Sample.{files, form_in_list, mode, mode_in_list, output, sample};
 ghost use Rattle.lexopt_options_spec.specs.Nearest.{IsDistance, IsHint, IsNearest, beginning};
 ghost use Rattle.lexopt_options_spec.specs.Nearest.{ending, hinted_names, if_one, long_names};
-ghost use Rattle.lexopt_laws.specs.Sample.{demanding_sample, dest, new, old, old_in_list, sources, user};
-ghost use Rattle.lexopt_laws.specs.Sample.{demanding_listed, listed_mode, listed_options};
+ghost use Rattle.lexopt_laws.specs.Sample.{demanding_sample, dest, new, old, old_in_list, sources};
+ghost use Rattle.lexopt_laws.specs.Sample.{demanding_listed, listed_mode, listed_options, user};
 ghost use Rattle.lexopt_laws.specs.Sample.{hiding_options, hiding_sample, listed_sample};
 ghost use Rattle.lexopt_laws.specs.Sample.{named, names_in_re, sample_options, target, verbose};
 
@@ -324,7 +324,7 @@ fn words_can_belong_to_these()
     ensures one { AreOwners (mode ∷ target ∷ []) [] (0 ∷ []) }
     ensures none { AreOwners (mode ∷ []) (codes "a" ∷ []) [] }
     ensures after_a_refused_word { AreOwners (mode_in_list ∷ files ∷ []) (codes "fats" ∷ []) [] }
-    ensures refused_by_one { AreOwners (old_in_list ∷ new ∷ dest ∷ []) (codes "b" ∷ []) (2 ∷ []) }
+    ensures after_a_word_refused_by_one { AreOwners (old_in_list ∷ new ∷ dest ∷ []) (codes "b" ∷ []) (2 ∷ []) }
     ensures role { AreOwnersIn (mode ∷ target ∷ []) (Some (argument (codes "a" ∷ []))) (1 ∷ []) }
     ensures of_a_value { AreOwnersIn (mode ∷ target ∷ []) (Some (value 1)) [] }
     ensures of_nothing { AreOwnersIn (mode ∷ target ∷ []) None [] }

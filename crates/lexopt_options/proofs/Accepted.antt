@@ -58,9 +58,6 @@ pub none_cond : (b : Bool) (value : List ℕ) → is_none (cond b None (Some val
 none_cond true value = refl
 none_cond false value = refl
 
-view_at : {F V M S : Type 0} (options : List (Declared F V M S)) (i : ℕ) (o : Option (Declared F V M S)) → slice_get options i ≡ o → slice_get (map option_view options) i ≡ option_map option_view o
-view_at options i o at = slice_get-map option_view options i ∙ ap (option_map option_view) at
-
 -- the element at an index
 pub at_place : {X : Type 0} (xs : List X) (i : ℕ) (x : X) → i < length xs → x ≡ get_or xs i x → slice_get xs i ≡ Some x
 at_place xs i x within is = slice_get-get_or xs i x within ∙ ap (λ y. Some y) (sym is)
@@ -73,7 +70,7 @@ none_is (Some i) false is = refl
 
 -- what a declaration has at an index
 pub view_there : {F V M S : Type 0} (options : List (Declared F V M S)) (i : ℕ) (o : Declared F V M S) → slice_get options i ≡ Some o → slice_get (map option_view options) i ≡ Some (option_view o)
-view_there options i o at = view_at options i (Some o) at
+view_there options i o at = slice_get-map option_view options i ∙ ap (option_map option_view) at
 
 pub required_is : (options : List spec.Declared) (i : ℕ) (o : spec.Declared) → slice_get options i ≡ Some o → is_required options i ≡ o.required
 required_is options i o at = ap (λ x. unwrap_or (option_map (λ p. p.required) x) false) at

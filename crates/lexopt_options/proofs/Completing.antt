@@ -1,5 +1,5 @@
 -- What is offered after some words.
-use Rattle.std.proofs.Common.{append-nil, if◌then◌else◌, zero, suc, ◌≡◌, ◌≤◌, ℕ, Bool, true, false, List, [], ◌∷◌, ◌++◌, map, filter, length, slice_get, Option, Some, None, Vec, nat_eq, option_map, refl, sym, ap, subst, ◌∙◌, inl, inr, arith}
+use Rattle.std.proofs.Common.{append-nil, if◌then◌else◌, zero, suc, ◌≡◌, ◌≤◌, ℕ, Bool, true, false, List, [], ◌∷◌, ◌++◌, map, filter, length, Option, Some, None, Vec, nat_eq, option_map, refl, sym, ap, subst, ◌∙◌, inl, inr, arith}
 use Rattle.std.proofs.Common.{Result, Ok, Err, IfOk}
 use Rattle.std.specs.Global.{Global}
 use Rattle.std.specs.List.{Contains, flat_map, starts_with}
@@ -8,7 +8,6 @@ use Rattle.std.proofs.Common.{◌<◌, ◌==◌, ◌≢◌, encode_utf8, positio
 use Rattle.std.proofs.lemmas.Bool.{and_parts, eq-eqb, eqb-true, false≢true}
 use Rattle.std.proofs.lemmas.List.Quantifiers.{position-Some}
 use Rattle.std.proofs.lemmas.List.{map-append}
-use Rattle.std.proofs.lemmas.Option.{slice_get-map}
 use Rattle.std.specs.declared.alloc.AllocError.{AllocError}
 use Rattle.lexopt_spec.specs.UnreadLine.{BeginsWith, dash}
 use Rattle.lexopt_options_spec.specs.Declaration.{Declaration, Declared, has_name, index_of, is_long, is_short, is_sound}
@@ -44,6 +43,7 @@ use Rattle.lexopt_options.specs.declared.complete.Joined.{Joined}
 use Rattle.lexopt_options.specs.declared.complete.Role.{Role}
 use Rattle.lexopt_options.specs.declared.complete.Role.TheVariants as role
 use Rattle.lexopt_options.specs.Roles.{IsDeclared, IsJoinedAt, IsRoleAt}
+use Rattle.lexopt_options.proofs.Accepted.{view_there}
 
 -- ---- a value in the word of its option
 
@@ -202,15 +202,12 @@ joined_declared d words typed i before joins = of joins.last joins.is (last_decl
 
 -- ---- values in lists
 
-view_at : {F V M S : Type 0} (options : List (rust.Declared F V M S)) (i : ℕ) (o : rust.Declared F V M S) → slice_get options i ≡ Some o → slice_get (map option_view options) i ≡ Some (option_view o)
-view_at options i o at = slice_get-map option_view options i ∙ ap (option_map option_view) at
-
 word_so : {F V M S : Type 0} (options : List (rust.Declared F V M S)) (r : Option spec.Role) (word : Option (Role F V M S)) → IsRoleAt options r word → word_values word ≡ values_at (map option_view options) r
 word_so options None None is = refl
 word_so options None (Some w) is = absurd is
 word_so options (Some (spec.value i)) None is = absurd is
 word_so options (Some (spec.argument n)) None is = absurd is
-word_so options (Some (spec.value i)) (Some (role.Value o)) is = ap listed_by (sym (view_at options i o.now is))
+word_so options (Some (spec.value i)) (Some (role.Value o)) is = ap listed_by (sym (view_there options i o.now is))
 word_so options (Some (spec.value i)) (Some role.Argument) is = absurd is
 word_so options (Some (spec.argument n)) (Some role.Argument) is = refl
 word_so options (Some (spec.argument n)) (Some (role.Value o)) is = absurd is
@@ -220,7 +217,7 @@ joined_so options None None is = refl
 joined_so options None (Some f) is = absurd is
 joined_so options (Some j) None is = absurd is
 joined_so options (Some j) (Some f) is =
-    ap (λ (b : List ℕ). map (λ v. b ++ v) (list_of (words_view f.option.now.words))) (sym is.1) ∙ ap (λ o. map (λ v. j.before ++ v) (listed_by o)) (sym (view_at options j.index f.option.now is.0))
+    ap (λ (b : List ℕ). map (λ v. b ++ v) (list_of (words_view f.option.now.words))) (sym is.1) ∙ ap (λ o. map (λ v. j.before ++ v) (listed_by o)) (sym (view_there options j.index f.option.now is.0))
 
 filter_append : (p : List ℕ → Bool) (xs ys : List (List ℕ)) → filter p (xs ++ ys) ≡ filter p xs ++ filter p ys
 filter_append p [] ys = refl

@@ -12,11 +12,10 @@ use Rattle.lexopt_options.specs.declared.options.Options.{Options}
 use Rattle.lexopt_options.specs.Declarations.{declaration_of, options_of}
 use Rattle.lexopt_options.specs.Mistakes.{AreNames}
 use Rattle.lexopt_options.specs.Reading.{AllSeen, IsFirstUnseen}
+use Rattle.lexopt_options.proofs.Accepted.{at_place, required_is, view_there}
 
 pub required_here : {F V M S : Type 0} (options : List (Declared F V M S)) (i : ℕ) (x : Declared F V M S) → i < length options → x ≡ get_or options i x → is_required (map option_view options) i ≡ x.required
-required_here [] i x within is = absurd (omega (arith, within))
-required_here (o ∷ os) zero x within is = ap (λ p. p.required) (sym is)
-required_here (o ∷ os) (suc i) x within is = required_here os i x (omega (arith, within)) is
+required_here options i x within is = required_is (map option_view options) i (option_view x) (view_there options i x (at_place options i x within is))
 
 pub required_within : {F V M S : Type 0} (options : List (Declared F V M S)) (i : ℕ) → is_required (map option_view options) i ≡ true → i < length options
 required_within [] i is = absurd (false≢true is)

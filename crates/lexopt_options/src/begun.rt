@@ -75,18 +75,19 @@ impl<F, V, M, S> Options<'_, F, V, Infallible, M, S> {
         ensures { IfOk result (λ found.
             IsLeadingCompletion self.now words.items typed.now found) }
     {
-        let count = words.len();
+        let room = words.len();
         let mut parser = self.parser_of(words);
-        self.complete_parsed(alloc, &mut parser, count, typed)
+        self.complete_parsed(alloc, &mut parser, room, typed)
     }
 
-    // The result of `complete_leading` for the line of this parser, of `count` words. It is apart
-    // for a cheap proof: `complete_leading` drops the parser, and this function has the branches.
+    // The result of `complete_leading` for the line of this parser, none of which is read. `room` is
+    // the room of the list of the rest. It is separate from `complete_leading`, which drops the
+    // parser, so that both proofs stay cheap.
     fn complete_parsed(
         &self,
         alloc: Global,
         parser: &mut Parser,
-        count: usize,
+        room: usize,
         typed: &OsString,
     ) -> Result<LeadingCompletion, AllocError>
         requires { (words : List (List ℕ))
@@ -97,7 +98,7 @@ impl<F, V, M, S> Options<'_, F, V, Infallible, M, S> {
     {
         match read_front(alloc, parser, self)? {
             Begun::Rest(word) => {
-                let rest = words_from(alloc, parser, word, count)?;
+                let rest = words_from(alloc, parser, word, room)?;
                 Ok(LeadingCompletion::Rest(rest))
             }
             Begun::Front(front, can_come_first) => {

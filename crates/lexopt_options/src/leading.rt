@@ -111,12 +111,14 @@ pub(crate) fn words_from(
     Ok(words)
 }
 
-// Reads the leading options of a line of `count` words by keys.
+// Reads the leading options of the line of this parser, none of which is read, by keys. `room` is
+// the room of the list of the rest. It is separate from `read_leading`, which drops the parser, so
+// that both proofs stay cheap.
 fn read_options<'a, F: Copy, V: Copy, P: Copy, M: Copy, S: Copy>(
     alloc: Global,
     parser: &mut Parser,
     options: &Options<'a, F, V, P, M, S>,
-    count: usize,
+    room: usize,
 ) -> Result<Leading<'a, F, V, P, M, S>, AllocError>
     requires { (words : List (List ℕ))
         × (parser.old ≡ start (declaration_of options.now).short_equals words) }
@@ -124,7 +126,7 @@ fn read_options<'a, F: Copy, V: Copy, P: Copy, M: Copy, S: Copy>(
         → parser.old ≡ start (declaration_of options.now).short_equals words
         → IfOk result (λ leading. IsLeadingRead options.now words leading) }
 {
-    let read = read_keys(alloc, parser, options, Some(0), count.min(FIRST_ROOM))?;
+    let read = read_keys(alloc, parser, options, Some(0), room.min(FIRST_ROOM))?;
     let Read {
         parsed,
         seen,
@@ -134,7 +136,7 @@ fn read_options<'a, F: Copy, V: Copy, P: Copy, M: Copy, S: Copy>(
     match ended {
         Ended::End => Ok(end(options, parsed, &seen, Vec::new(alloc))),
         Ended::Positional(word) => {
-            let rest = words_from(alloc, parser, word, count)?;
+            let rest = words_from(alloc, parser, word, room)?;
             Ok(end(options, parsed, &seen, rest))
         }
         Ended::Asked(asked) => Ok(Leading::Asked(asked)),
@@ -194,8 +196,8 @@ impl<'a, F: Copy, V: Copy, P: Copy, M: Copy, S: Copy> Options<'a, F, V, P, M, S>
             → MeansLeading (declaration_of self.now) words.items l rest
             → IfOk result (λ leading. IsLeadingOf self.now l rest leading) }
     {
-        let count = words.len();
+        let room = words.len();
         let mut parser = self.parser_of(words);
-        read_options(alloc, &mut parser, self, count)
+        read_options(alloc, &mut parser, self, room)
     }
 }

@@ -135,9 +135,9 @@ pub enum Mistake<'a> {
     InvalidVariable(String),
 }
 
-// Writes the message of `Mistake::UnexpectedValue`. This function and the next three are apart, so
-// that the proof of `Mistake::fmt` stays cheap. They take the fields as the mistake has them, since
-// their contracts cite its message.
+// Writes the message of `Mistake::UnexpectedValue`. This function and the next three are separate
+// from `Mistake::fmt` only to keep its proof cheap. They take `&String` and `&OsString`, the types
+// of the fields, since their contracts cite the mistake.
 fn write_unexpected<W: fmt::Write>(
     option: &String,
     value: &OsString,

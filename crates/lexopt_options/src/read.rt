@@ -1,6 +1,6 @@
 //! Reads a whole line by a declaration. `leading.rt` reads only the leading options.
-ghost use Rattle.std.specs.Prelude.{◌≡◌, ◌≢◌, ◌≤◌, ◌↔◌, ◌∷◌, ◌++◌, ℕ, List, [], IfOk, OnOk};
-ghost use Rattle.std.specs.Prelude.{IsTrue, None, Option, Some, false, length, map, slice_get, true};
+ghost use Rattle.std.specs.Prelude.{◌≡◌, ◌≢◌, ◌≤◌, ◌↔◌, ℕ, List, IfOk, OnOk, slice_get, true};
+ghost use Rattle.std.specs.Prelude.{IsTrue, None, Option, Some, false, length, map};
 ghost use Rattle.std.specs.List.{list_any};
 ghost use Rattle.std.specs.Option.{MatchOption};
 ghost use Rattle.lexopt_spec.specs.UnreadLine.{IsLine, Tail, UnreadLine};
@@ -305,23 +305,14 @@ pub fn missing_option<'a, F, V, P, M, S>(
     first_unseen(options.options(), seen)
 }
 
-// Adds an index to a list. It is a function of its own for its contract.
-#[inline(always)]
-fn add_index(index: usize, seen: &mut Vec<usize>) -> Result<(), AllocError>
-    ensures { OnOk result (seen.new.items ≡ seen.old.items ++ index ∷ []) }
-{
-    Ok(seen.push(index)?)
-}
-
 // Adds the index of an option that was read to `seen`, if the option is required.
 pub fn note(required: bool, index: usize, seen: &mut Vec<usize>) -> Result<(), AllocError>
     ensures { OnOk result (seen.new.items ≡ noted required index seen.old.items) }
 {
     if required {
-        add_index(index, seen)
-    } else {
-        Ok(())
+        seen.push(index)?;
     }
+    Ok(())
 }
 
 // Whether nothing can be missing from a line with `count` positionals, and no word has to be in a
@@ -400,8 +391,8 @@ fn ask<'a, F, V, P, M, S>(
 
 // Reads a line by keys, up to one positional more than `limit`, into a list that has room for
 // `room` things from the start. This function, `refuse` and `line_of` are always inlined for speed:
-// a call would be handed what was read, which would then stay in memory and not in registers while
-// the line is read.
+// a call would hand over or return what was read, which would then stay in memory and not in
+// registers while the line is read.
 #[inline(always)]
 pub fn read_keys<'a, F: Copy, V: Copy, P: Copy, M: Copy, S: Copy>(
     alloc: Global,
@@ -482,8 +473,8 @@ fn refuse<'a, F, V, P: Copy, M, S>(
     })
 }
 
-// What a line is of which this was read. It is apart from `read_line`, which drops the parser, so
-// that the proofs of both stay cheap.
+// The result for a line of which this was read. It is separate from `read_line`, which drops the
+// parser, so that both proofs stay cheap.
 #[inline(always)]
 fn line_of<'a, F: Drop, V: Drop, P: Copy, M: Drop, S: Drop>(
     options: &Options<'a, F, V, P, M, S>,

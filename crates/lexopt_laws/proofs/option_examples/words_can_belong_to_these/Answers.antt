@@ -13,8 +13,8 @@ returns-clause-none c = no_owner
 pub returns-clause-after_a_refused_word : goal.returns-clause-after_a_refused_word
 returns-clause-after_a_refused_word c = no_owner_after_fats
 
-pub returns-clause-refused_by_one : goal.returns-clause-refused_by_one
-returns-clause-refused_by_one c = owner_is_dest
+pub returns-clause-after_a_word_refused_by_one : goal.returns-clause-after_a_word_refused_by_one
+returns-clause-after_a_word_refused_by_one c = owner_is_dest
 
 pub returns-clause-role : goal.returns-clause-role
 returns-clause-role c = owner_is_target

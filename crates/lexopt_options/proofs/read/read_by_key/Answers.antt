@@ -29,7 +29,7 @@ returns-in-Help g c = λ o index count u name at step found.
     let r = c.args.option.now in
     let view = view_there (options_of o) index r at in
     read_so o count u c.args.parser.now c.args.parser.now name arity.Flag index (values.AtMostOne None) (told.Asked asked.Help)
-    (kind_here d.options index r (kind.Help) view c.in-Help.is) step found refl (tells_help o index r at c.in-Help.is) refl
+    (kind_here d.options index r kind.Help view c.in-Help.is) step found refl (tells_help o index r at c.in-Help.is) refl
 
 pub returns-in-Version : goal.returns-in-Version
 returns-in-Version g c = λ o index count u name at step found.

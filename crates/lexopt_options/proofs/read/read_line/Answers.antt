@@ -11,5 +11,5 @@ returns g c =
     let words = c.args.words.items in
     let read = c.in_ok-read.read in
     let ended = c.in_ok-read.ensures words c.parser_of-parser.ensures in
-    let most = subst (λ limit. HasEnded c.args.options.now words limit read.count read.seen.items read.parsed.items read.ended c.read_keys.new.parser) c.most.ensures ended in
-    c.line_of.ensures words c.read_keys.new.parser most
+    let whole = subst (λ limit. HasEnded c.args.options.now words limit read.count read.seen.items read.parsed.items read.ended c.read_keys.new.parser) c.most.ensures ended in
+    c.line_of.ensures words c.read_keys.new.parser whole
