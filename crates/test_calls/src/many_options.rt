@@ -228,13 +228,25 @@ fn read_line(
 }
 
 // Whether a line means these settings and files, as `Debug` writes them.
-fn is_read(alloc: Global, wanted: &str) -> Result<bool, Error> {
-    let mut parser = parser_of(alloc, &[b"-ia3", b"--max-count=5", b"-q", b"x y"])?;
-    let (mut settings, mut files) = (Settings::default(), Vec::new(alloc));
-    read_line(alloc, &mut parser, &mut settings, &mut files)?;
+fn reads_as(
+    alloc: Global,
+    parser: &mut Parser,
+    settings: &mut Settings,
+    wanted: &str,
+) -> Result<bool, Error> {
+    let mut files = Vec::new(alloc);
+    read_line(alloc, parser, settings, &mut files)?;
     let (after, count) = (&settings.after_context, &settings.max_count);
     let text = format!(in alloc; "{after:?} {count:?} {} {files:?}", settings.quiet)?;
     Ok(text.as_str() == wanted)
+}
+
+// Whether this line means them. It lends the settings, which it would drop on each way out of
+// `reads_as`.
+fn is_read(alloc: Global, wanted: &str) -> Result<bool, Error> {
+    let mut parser = parser_of(alloc, &[b"-ia3", b"--max-count=5", b"-q", b"x y"])?;
+    let mut settings = Settings::default();
+    reads_as(alloc, &mut parser, &mut settings, wanted)
 }
 
 #[test]
