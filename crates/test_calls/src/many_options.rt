@@ -227,7 +227,7 @@ fn read_line(
     Ok(())
 }
 
-// Whether a line means these settings and files, as `Debug` writes them.
+// Whether a line means these settings and files, as `Debug` writes them. It drops no settings.
 fn reads_as(
     alloc: Global,
     parser: &mut Parser,
@@ -237,12 +237,9 @@ fn reads_as(
     let mut files = Vec::new(alloc);
     read_line(alloc, parser, settings, &mut files)?;
     let (after, count) = (&settings.after_context, &settings.max_count);
-    let text = format!(in alloc; "{after:?} {count:?} {} {files:?}", settings.quiet)?;
-    Ok(text.as_str() == wanted)
+    Ok(format!(in alloc; "{after:?} {count:?} {} {files:?}", settings.quiet)?.as_str() == wanted)
 }
 
-// Whether this line means them. It lends the settings, which it would drop on each way out of
-// `reads_as`.
 fn is_read(alloc: Global, wanted: &str) -> Result<bool, Error> {
     let mut parser = parser_of(alloc, &[b"-ia3", b"--max-count=5", b"-q", b"x y"])?;
     let mut settings = Settings::default();
