@@ -1,12 +1,9 @@
 //! What can be wrong with a line, the messages about it, and the hint of an unknown short option.
 ghost use Rattle.std.specs.Prelude.{IfOk, map};
-ghost use Rattle.std.specs.Fmt.{WritesOnOk};
 ghost use Rattle.lexopt_spec.specs.UnreadLine as unread;
 ghost use Rattle.lexopt_line_spec.specs.Table.{short};
 ghost use Rattle.lexopt_options_spec.specs.Nearest.{IsHint};
 ghost use Rattle.lexopt_declaration.specs.Models.{option_view};
-ghost use Rattle.lexopt_options.specs.Messages.{message};
-ghost use Rattle.lexopt_options.specs.declared.mistake.Mistake.TheVariants as mistake;
 
 use lexopt_declaration::declaration::{Declared, Names};
 use lexopt_declaration::hints::write_hints;
@@ -135,70 +132,6 @@ pub enum Mistake<'a> {
     InvalidVariable(String),
 }
 
-// Writes the message of `Mistake::UnexpectedValue`. This function and the next three are separate
-// from `Mistake::fmt` only to keep its proof cheap. They take `&String` and `&OsString`, the types
-// of the fields, since their contracts cite the mistake.
-fn write_unexpected<W: fmt::Write>(
-    option: &String,
-    value: &OsString,
-    f: &mut fmt::Formatter<W>,
-) -> fmt::Result
-    ensures { WritesOnOk W.write_str_gives f.old result
-        (message (mistake.UnexpectedValue option.now value.now)) f.new }
-{
-    let option = Escaped(option.as_str());
-    let value = Visible::new(value.as_bytes());
-    write!(f, "unexpected argument for option '{option}': {value}")
-}
-
-// Writes the message of `Mistake::MissingValue`.
-fn write_missing_value<W: fmt::Write>(
-    option: &String,
-    placeholder: &str,
-    f: &mut fmt::Formatter<W>,
-) -> fmt::Result
-    ensures { WritesOnOk W.write_str_gives f.old result
-        (message (mistake.MissingValue option.now placeholder.entry)) f.new }
-{
-    let placeholder = Escaped(placeholder);
-    let option = Escaped(option.as_str());
-    write!(f, "missing argument {placeholder} for option '{option}'")
-}
-
-// Writes the message of `Mistake::InvalidValue`.
-fn write_invalid_value<W: fmt::Write>(
-    option: &Names<'_>,
-    value: &OsString,
-    values: &[&str],
-    f: &mut fmt::Formatter<W>,
-) -> fmt::Result
-    ensures { WritesOnOk W.write_str_gives f.old result
-        (message (mistake.InvalidValue option.now value.now values.entry)) f.new }
-{
-    let value = Visible::new(value.as_bytes());
-    let values = Listed(values);
-    write!(f, "invalid value {value} for '{option}': one of {values}")
-}
-
-// Writes the message of `Mistake::InvalidArgument`.
-fn write_invalid_argument<W: fmt::Write>(
-    placeholder: &str,
-    word: &OsString,
-    values: &[&str],
-    f: &mut fmt::Formatter<W>,
-) -> fmt::Result
-    ensures { WritesOnOk W.write_str_gives f.old result
-        (message (mistake.InvalidArgument placeholder.entry word.now values.entry)) f.new }
-{
-    let word = Visible::new(word.as_bytes());
-    let placeholder = Escaped(placeholder);
-    let values = Listed(values);
-    write!(
-        f,
-        "invalid argument {word} for {placeholder}: one of {values}"
-    )
-}
-
 impl fmt::Display for Mistake<'_> {
     ghost use Rattle.std.specs.Prelude.{Some};
     ghost use Rattle.lexopt_options.specs.Messages.{message};
@@ -211,16 +144,28 @@ impl fmt::Display for Mistake<'_> {
                 write!(f, "invalid option '{name}'")?;
                 write_hints("--", hints, f)
             }
-            Mistake::UnexpectedValue { option, value } => write_unexpected(option, value, f),
+            Mistake::UnexpectedValue { option, value } => {
+                let option = Escaped(option.as_str());
+                let value = Visible::new(value.as_bytes());
+                write!(f, "unexpected argument for option '{option}': {value}")
+            }
             Mistake::MissingValue {
                 option,
                 placeholder,
-            } => write_missing_value(option, placeholder, f),
+            } => {
+                let placeholder = Escaped(placeholder);
+                let option = Escaped(option.as_str());
+                write!(f, "missing argument {placeholder} for option '{option}'")
+            }
             Mistake::InvalidValue {
                 option,
                 value,
                 values,
-            } => write_invalid_value(option, value, values, f),
+            } => {
+                let value = Visible::new(value.as_bytes());
+                let values = Listed(values);
+                write!(f, "invalid value {value} for '{option}': one of {values}")
+            }
             Mistake::UnexpectedArgument(word) => {
                 let word = Visible::new(word.as_bytes());
                 write!(f, "unexpected argument {word}")
@@ -233,7 +178,15 @@ impl fmt::Display for Mistake<'_> {
                 placeholder,
                 word,
                 values,
-            } => write_invalid_argument(placeholder, word, values, f),
+            } => {
+                let word = Visible::new(word.as_bytes());
+                let placeholder = Escaped(placeholder);
+                let values = Listed(values);
+                write!(
+                    f,
+                    "invalid argument {word} for {placeholder}: one of {values}"
+                )
+            }
             Mistake::MissingOption(names) => write!(f, "missing option '{names}'"),
             Mistake::MissingCommand(names) => {
                 let names = Listed(names);
