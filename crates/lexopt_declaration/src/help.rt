@@ -240,6 +240,13 @@ fn push_labelled(
     out.push('\n')
 }
 
+// Whether a text ends with a full stop.
+fn is_sentence(text: &str) -> bool
+    ensures { result ≡ spec.is_sentence text.now }
+{
+    text.as_bytes().ends_with(b".")
+}
+
 // The text of an entry: the help text, and the list if there is one.
 fn with_list(alloc: Global, help: &str, words: Words<'_>) -> Result<String, AllocError>
     ensures { IfOk result (λ text.
@@ -248,6 +255,9 @@ fn with_list(alloc: Global, help: &str, words: Words<'_>) -> Result<String, Allo
     match words {
         Words::Files | Words::Directories | Words::Text => String::from_str(alloc, help),
         Words::Listed(values) if help.is_empty() => format!(in alloc; "one of {}", Listed(values)),
+        Words::Listed(values) if is_sentence(help) => {
+            format!(in alloc; "{help} One of {}.", Listed(values))
+        }
         Words::Listed(values) => format!(in alloc; "{help}: one of {}", Listed(values)),
     }
 }

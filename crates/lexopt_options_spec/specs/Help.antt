@@ -1,12 +1,12 @@
 -- The help of declared options: lines of words, labels, entries, the usage line, and the whole. The
 -- source is `docs/behaviour.md`, which follows the GNU Coding Standards and the output of
 -- `ls --help`. Texts are their UTF-8. Columns are counted from 0.
-use Rattle.std.specs.Prelude.{◌≡◌, ◌≤◌, ◌<◌, ◌⊎◌, ℕ, ◌+◌, ◌-◌, ◌/◌, min, nat_le, ◌==◌, not}
+use Rattle.std.specs.Prelude.{◌≡◌, ◌≤◌, ◌<◌, ◌⊎◌, ℕ, Bool, ◌+◌, ◌-◌, ◌/◌, min, nat_le, ◌==◌, not}
 use Rattle.std.specs.Prelude.{if◌then◌else◌, List, [], ◌∷◌, ◌++◌, length, take, filter, replicate}
 use Rattle.std.specs.Prelude.{codes, encode_utf8, map, Option, Some, None}
 use Rattle.std.specs.Char.{IsScalar}
 use Rattle.std.specs.Str.{IsUtf8, chars}
-use Rattle.std.specs.List.{AllZip, concat, flat_map, join_by, join_with_byte, slice_split, sum_by}
+use Rattle.std.specs.List.{AllZip, concat, ends_with, flat_map, join_by, join_with_byte, slice_split, sum_by}
 use Rattle.bstr.specs.Unicode.{grapheme_spans}
 use Rattle.lexopt_spec.specs.Text.{escaped}
 use Rattle.lexopt_spec.specs.UnreadLine.{dash, equals}
@@ -300,11 +300,20 @@ abbrev pub list_text : List (List ℕ) → List ℕ
 list_text [] = []
 list_text (value ∷ values) = value ++ flat_map (λ other. codes ", " ++ other) values
 
+-- whether a text ends with a full stop
+abbrev pub is_sentence : List ℕ → Bool
+is_sentence text = ends_with (λ a b. a == b) text (codes ".")
+
+-- the list after this help text, which is not empty
+abbrev pub list_after : List ℕ → List ℕ → List ℕ
+list_after help values = if is_sentence help
+    then help ++ (codes " One of " ++ (values ++ codes "."))
+    else help ++ (codes ": one of " ++ values)
+
 -- the text of an entry: this help text, and the list if there is one
 abbrev pub with_list : List ℕ → Words → List ℕ
 with_list [] (listed values) = codes "one of " ++ list_text (map escaped_text values)
-with_list help (listed values) =
-    help ++ codes ": one of " ++ list_text (map escaped_text values)
+with_list help (listed values) = list_after help (list_text (map escaped_text values))
 with_list help words = help
 
 -- ---- the whole text

@@ -142,12 +142,17 @@ pub fn positionals_are_described()
         ≡ positional_of (codes "MODE") [] (listed (codes "fast" ∷ [])) ∷ [] }
 {}
 
-/// The list of an option comes after its help text, or alone if that is empty. A character that a
-/// terminal may act on is escaped.
+/// The list of an option comes after its help text, as a sentence of its own if the text ends with a
+/// full stop, or alone if the text is empty. A character that a terminal may act on is escaped.
 #[tactic(auto, unfolding(lexopt_line_spec::proofs::Computing::computing))]
 pub fn lists_are_shown()
     ensures list { with_list (codes "how to pack") (listed (codes "fast" ∷ codes "slow" ∷ []))
         ≡ codes "how to pack: one of fast, slow" }
+    ensures sentence { with_list (codes "How to pack.")
+        (listed (codes "fast" ∷ codes "slow" ∷ []))
+        ≡ codes "How to pack. One of fast, slow." }
+    ensures full_stop_within { with_list (codes "pack .zip files")
+        (listed (codes "fast" ∷ [])) ≡ codes "pack .zip files: one of fast" }
     ensures no_help { with_list [] (listed (codes "fast" ∷ codes "slow" ∷ []))
         ≡ codes "one of fast, slow" }
     ensures one_value { with_list [] (listed (codes "fast" ∷ [])) ≡ codes "one of fast" }
