@@ -15,7 +15,7 @@ use Rattle.lexopt_spec.proofs.PlainFronts.{plain_holds, plain_passes}
 use Rattle.lexopt_line_spec.specs.Table.{Name, short, long, Item, option, many, positional, Kind, kind, Table}
 use Rattle.lexopt_line_spec.specs.Spelling.{After, nothing, attached, joined}
 use Rattle.lexopt_line_spec.specs.Speller as rows
-use Rattle.lexopt_line_spec.specs.Speller.{Reason, no_name, equals_in_name, empty_name, past_separator, dash_without_flag, Place, open_line, in_cluster, after_values, after_positional, ended, BeginsRow, is_positional, NeedSeparator, HasForm, HasNoForm, after_bytes, Adds, GoesOn, IsOf, CannotBeSpelled, SpelledFrom, SpelledAs, FaultFrom, Fault, HasFault, IsAtFault}
+use Rattle.lexopt_line_spec.specs.Speller.{Reason, dash_without_flag, Place, open_line, in_cluster, after_values, after_positional, ended, BeginsRow, is_positional, NeedSeparator, HasForm, HasNoForm, after_bytes, Adds, GoesOn, IsOf, CannotBeSpelled, SpelledFrom, SpelledAs, FaultFrom, Fault, HasFault}
 use Rattle.lexopt_line_spec.proofs.SpellerTables.{Form, short_form, long_form, short_many_form, long_many_form, Added, with_form, short_added, is_named, long_placed, long_added, needs_no_separator, positional_added, adds, separator_comes_too_early, separator_is_due, is_plain_item, Rest, with_rest, with_rests, spelled_from, words_or_fault, spelled}
 use Rattle.lexopt_line_spec.proofs.Exact.{contains_first, contains_more}
 use Rattle.lexopt_line_spec.proofs.SpellerAnswers.{none_is}

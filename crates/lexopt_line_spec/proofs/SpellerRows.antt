@@ -8,7 +8,7 @@ use Rattle.lexopt_spec.specs.UnreadLine.{equals, BeginsWith, IsPlain, is_plain}
 use Rattle.lexopt_line_spec.specs.Table.{Name, short, long, Item, option, many, positional, Kind, flag, one, optional, several}
 use Rattle.lexopt_line_spec.specs.Spelling.{After, attached, joined}
 use Rattle.lexopt_line_spec.specs.Speller as rows
-use Rattle.lexopt_line_spec.specs.Speller.{Reason, no_name, unexpected_value, missing_value, wants_many, not_many, empty_value, option_among_values, Place, open_line, in_cluster, after_values, is_positional, ArePositionals, ArePositionalThenOption, NeedSeparator, IsLoneAndJoined, HasForm, HasNoForm}
+use Rattle.lexopt_line_spec.specs.Speller.{Reason, no_name, not_many, option_among_values, Place, open_line, is_positional, ArePositionals, ArePositionalThenOption, NeedSeparator, IsLoneAndJoined, HasForm, HasNoForm}
 use Rattle.lexopt_line_spec.proofs.SpellerTables.{Form, in_word, attached_form, short_form, long_form, words_form, short_words_form, short_many_form, long_many_form, separator_comes_too_early, separator_is_due, is_plain_item}
 use Rattle.lexopt_spec.proofs.PlainFronts.{plain_holds, plain_passes}
 use Rattle.lexopt_line_spec.proofs.SpellerTests.{all_plain, all_pass}

@@ -7,7 +7,7 @@ use Rattle.std.specs.Char.{IsScalar}
 use Rattle.lexopt_spec.specs.UnreadLine.{dash, equals, BeginsWith, IsPlain, IsNormalIn}
 use Rattle.lexopt_line_spec.specs.Table.{short, long, Item, option, positional, Kind, kind, Table}
 use Rattle.lexopt_line_spec.specs.Spelling as spelling
-use Rattle.lexopt_line_spec.specs.Spelling.{exact, After, nothing, attached, joined, Completes, BeginsWithMark, IsAfterLast, Cluster, flag_first, last_option, nothing_more, IsLong, name_alone, name_and_value, Group, cluster, Line, no_words, plain_word, group, separator, Spells}
+use Rattle.lexopt_line_spec.specs.Spelling.{exact, After, nothing, attached, joined, BeginsWithMark, Cluster, flag_first, last_option, IsLong, name_alone, name_and_value, cluster, Line, no_words, plain_word, group, separator, Spells}
 use Rattle.lexopt_line_spec.specs.Speller as rows
 use Rattle.lexopt_line_spec.specs.Speller.{Place, open_line, in_cluster, after_values, after_positional, ended, after_bytes, BeginsRow, HasForm, Adds, GoesOn, SpelledFrom, SpelledAs}
 use Rattle.lexopt_line_spec.proofs.SpellerTables.{Rest, spelled}

@@ -17,7 +17,7 @@ use Rattle.lexopt_spec.specs.Runs.{Call, Run}
 use Rattle.lexopt_line_spec.specs.Table.{short, long, Item, option, positional, flag, kind, Table}
 use Rattle.lexopt_line_spec.specs.Readings.{start, Asked}
 use Rattle.lexopt_line_spec.specs.Spelling as lines
-use Rattle.lexopt_line_spec.specs.Spelling.{exact, damaged, After, nothing, attached, joined, Completes, BeginsWithMark, IsAfterLast, a_value, Cluster, flag_first, last_option, Group, cluster, Line, no_words, plain_word, group, IsLong, name_alone, name_and_value, Shows}
+use Rattle.lexopt_line_spec.specs.Spelling.{exact, After, nothing, attached, joined, Completes, BeginsWithMark, IsAfterLast, a_value, Cluster, flag_first, last_option, cluster, Line, plain_word, group, name_alone, name_and_value, Shows}
 use Rattle.lexopt_spec.proofs.PlainFronts.{plain_holds, plain_passes, front-none, front_only}
 use Rattle.lexopt_line_spec.proofs.WholeLines.{shown_said}
 

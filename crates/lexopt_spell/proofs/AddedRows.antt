@@ -8,7 +8,7 @@ use Rattle.lexopt_line_spec.specs.Table as spec
 use Rattle.lexopt_line_spec.specs.Table.{Name, short, long, Item, positional, kind, Table}
 use Rattle.lexopt_line_spec.specs.Spelling.{After, nothing, attached, joined}
 use Rattle.lexopt_line_spec.specs.Speller as rows
-use Rattle.lexopt_line_spec.specs.Speller.{HasForm, HasNoForm, IsOf, CannotBeSpelled, Adds, BeginsRow, NeedSeparator, open_line, in_cluster, ended}
+use Rattle.lexopt_line_spec.specs.Speller.{HasForm, HasNoForm, CannotBeSpelled, Adds, BeginsRow, NeedSeparator, open_line, in_cluster, ended}
 use Rattle.lexopt_spell.proofs.FormRows.{plain_more}
 use Rattle.lexopt_line_spec.proofs.SpellerAgrees.{none_attached}
 use Rattle.lexopt_spell.specs.Models.{Parts, HasParts, FormIs, AddsWords, AddedIs, form_view, place_view, reason_view}

@@ -4,7 +4,6 @@ use Rattle.std.specs.Prelude.{◌≡◌, ℕ, Bool, List, map}
 use Rattle.lexopt_spec.specs.Steps as steps
 use Rattle.lexopt_spec.specs.Steps.{Reply}
 use Rattle.lexopt_line_spec.specs.Readings.{IsReading, start}
-use Rattle.lexopt_line_spec.specs.Speller as spec
 use Rattle.lexopt_line_spec.specs.Speller.{SpelledAs}
 use Rattle.lexopt_line_spec.specs.Table as table_spec
 use Rattle.lexopt_items.specs.Items.{item_view, table_view}

@@ -2,7 +2,6 @@ use Rattle.std.proofs.Common.{rules, ◌≡◌, true, Err, sym, ap, subst, refl,
 use lib.Utf8.{scalar}
 use Rattle.lexopt_line_spec.specs.Table.{short, long, option, many, kind, Kind}
 use Rattle.lexopt_line_spec.specs.Speller as rows
-use Rattle.lexopt_line_spec.specs.Speller.{ArePositionalThenOption}
 use Rattle.lexopt_items.specs.Items.{item_view, table_view}
 use Rattle.lexopt_items.specs.declared.items.Item.{Item}
 use Rattle.lexopt_spell.specs.Models.{AddedIs, FormIs, place_view}
