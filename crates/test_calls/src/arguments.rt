@@ -10,22 +10,20 @@ use test_helpers::environments::Arguments;
 use test_helpers::errors::prints;
 use test_helpers::parsers::words_from;
 
-// Whether `arguments` returns these words.
-fn are_arguments(rt: &impl Env, alloc: Global, words: &[OsString]) -> Result<bool, AllocError> {
-    Ok(arguments(rt, alloc)?.as_slice() == words)
+// Whether a parser of these words has this name, and its unread words are those after the first.
+fn is_made_of(parser: &mut Parser, words: &[OsString], name: Option<&str>) -> Result<bool, Error> {
+    has_words(parser, name, words.get(1..).unwrap_or(&[]))
 }
 
-// Whether `arguments` returns these words, and `from_env_os` a parser with this name whose unread
-// words are those after the first.
+// Whether `arguments` returns these words, and `from_env_os` a parser of them with this name.
 fn has_all_words(
     rt: &impl Env,
     alloc: Global,
     words: &[OsString],
     name: Option<&str>,
 ) -> Result<bool, Error> {
-    let unread = words.get(1..).unwrap_or(&[]);
-    let is_made = has_words(&mut Parser::from_env_os(rt, alloc)?, name, unread)?;
-    Ok(is_made && are_arguments(rt, alloc, words)?)
+    let are_read = arguments(rt, alloc)?.as_slice() == words;
+    Ok(is_made_of(&mut Parser::from_env_os(rt, alloc)?, words, name)? && are_read)
 }
 
 // Whether both calls return these words if the environment has them.
@@ -125,9 +123,8 @@ fn is_custom(alloc: Global, error: &Error, message: &str) -> Result<bool, AllocE
     Ok(matches!(error, Error::Custom(_)) && prints(alloc, error, message)?)
 }
 
-// Whether `from_env` refuses a line with this message.
-fn is_refused(alloc: Global, line: &[&[u8]], message: &str) -> Result<bool, AllocError> {
-    let words = &words_from(alloc, line)?;
+// Whether `from_env` refuses these words with this message.
+fn is_refused(alloc: Global, words: &[OsString], message: &str) -> Result<bool, AllocError> {
     match Parser::from_env(&(Arguments { words }, alloc), alloc) {
         Err(error) => is_custom(alloc, &error, message),
         Ok(_) => Ok(false),
@@ -137,17 +134,17 @@ fn is_refused(alloc: Global, line: &[&[u8]], message: &str) -> Result<bool, Allo
 // `from_env` refuses a word with damage, which the other two calls read.
 #[test]
 fn words_that_are_no_text(rt: HostRuntime) {
-    assert!(rt; is_refused(rt.alloc(), &NO_TEXT, "arguments unavailable").expect(&rt, "success"));
+    let words = words_from(rt.alloc(), &NO_TEXT).expect(&rt, "memory");
+    assert!(rt; is_refused(rt.alloc(), &words, "arguments unavailable").expect(&rt, "success"));
 }
 
-// Whether `from_env` makes a parser with this name, whose unread words are those after the first.
+// Whether `from_env` makes a parser of these words with this name.
 fn are_texts<R: Env + AllocGlobal>(
     rt: &R,
     words: &[OsString],
     name: Option<&str>,
 ) -> Result<bool, Error> {
-    let mut parser = Parser::from_env(rt, rt.alloc())?;
-    has_words(&mut parser, name, words.get(1..).unwrap_or(&[]))
+    is_made_of(&mut Parser::from_env(rt, rt.alloc())?, words, name)
 }
 
 // The same for the words of a line.

@@ -184,28 +184,29 @@ fn set_flag(settings: &mut Settings, flag: Flag) {
 }
 
 fn set_value(settings: &mut Settings, valued: Valued, word: OsString) {
-    match valued {
-        Valued::AfterContext => settings.after_context = Some(word),
-        Valued::BeforeContext => settings.before_context = Some(word),
-        Valued::Depth => settings.depth = Some(word),
-        Valued::Regexp => settings.regexp = Some(word),
-        Valued::File => settings.file = Some(word),
-        Valued::Glob => settings.glob = Some(word),
-        Valued::Jobs => settings.jobs = Some(word),
-        Valued::MaxCount => settings.max_count = Some(word),
-        Valued::Replace => settings.replace = Some(word),
-        Valued::Sort => settings.sort = Some(word),
-        Valued::Type => settings.type_of = Some(word),
-        Valued::TypeNot => settings.type_not = Some(word),
-        Valued::Buffer => settings.buffer = Some(word),
-        Valued::Context => settings.context = Some(word),
-        Valued::Dictionary => settings.dictionary = Some(word),
-        Valued::Encoding => settings.encoding = Some(word),
-        Valued::Colors => settings.colors = Some(word),
-        Valued::Separator => settings.separator = Some(word),
-        Valued::MaxColumns => settings.max_columns = Some(word),
-        Valued::Null => settings.null = Some(word),
-    }
+    let value = match valued {
+        Valued::AfterContext => &mut settings.after_context,
+        Valued::BeforeContext => &mut settings.before_context,
+        Valued::Depth => &mut settings.depth,
+        Valued::Regexp => &mut settings.regexp,
+        Valued::File => &mut settings.file,
+        Valued::Glob => &mut settings.glob,
+        Valued::Jobs => &mut settings.jobs,
+        Valued::MaxCount => &mut settings.max_count,
+        Valued::Replace => &mut settings.replace,
+        Valued::Sort => &mut settings.sort,
+        Valued::Type => &mut settings.type_of,
+        Valued::TypeNot => &mut settings.type_not,
+        Valued::Buffer => &mut settings.buffer,
+        Valued::Context => &mut settings.context,
+        Valued::Dictionary => &mut settings.dictionary,
+        Valued::Encoding => &mut settings.encoding,
+        Valued::Colors => &mut settings.colors,
+        Valued::Separator => &mut settings.separator,
+        Valued::MaxColumns => &mut settings.max_columns,
+        Valued::Null => &mut settings.null,
+    };
+    *value = Some(word);
 }
 
 fn read_line(

@@ -28,35 +28,26 @@ fn items_of(alloc: Global, words: &[&[u8]], table: &Table) -> Result<Vec<Item>, 
     read_items(alloc, words_from(alloc, words)?, true, table)
 }
 
-// Whether the items of the words are spelled by the same words.
-fn are_spelled(alloc: Global) -> Result<bool, Error> {
-    let table = table_of_each_kind(alloc)?;
-    match spell(alloc, &items_of(alloc, &WORDS, &table)?, true, &table) {
-        Ok(words) => Ok(are_words(&words, &WORDS)),
-        Err(_) => Ok(false),
-    }
-}
-
+// The items of the words are spelled by the same words.
 #[test]
 fn spelled(rt: HostRuntime) {
-    assert!(rt; are_spelled(rt.alloc()).expect(&rt, "success"));
+    let table = table_of_each_kind(rt.alloc()).expect(&rt, "memory");
+    let items = items_of(rt.alloc(), &WORDS, &table).expect(&rt, "success");
+    let words = spell(rt.alloc(), &items, true, &table).expect(&rt, "success");
+    assert!(rt; are_words(&words, &WORDS));
 }
 
-// The error of an option after a positional that needs the separator.
-fn error_past_the_separator(alloc: Global) -> Result<Option<SpellError>, Error> {
-    let table = table_of_each_kind(alloc)?;
-    let mut items = items_of(alloc, &[b"-v", b"--", b"-x"], &table)?;
-    items.reverse();
-    Ok(spell(alloc, &items, true, &table).err())
-}
-
+// An option after a positional that needs the separator.
 #[test]
 fn at_fault(rt: HostRuntime) {
+    let table = table_of_each_kind(rt.alloc()).expect(&rt, "memory");
+    let mut items = items_of(rt.alloc(), &[b"-v", b"--", b"-x"], &table).expect(&rt, "success");
+    items.reverse();
     let fault = SpellError::AtFault {
         index: 1,
         reason: Reason::PastSeparator,
     };
-    assert!(rt; error_past_the_separator(rt.alloc()).expect(&rt, "success") == Some(fault));
+    assert!(rt; spell(rt.alloc(), &items, true, &table).err() == Some(fault));
 }
 
 static MESSAGES: [(Reason, &str); 10] = [

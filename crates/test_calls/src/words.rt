@@ -27,27 +27,23 @@ fn bytes_of_words(rt: HostRuntime) {
     }
 }
 
-// Whether the word of a text has the bytes of the text, and words with other bytes are different,
-// come before or after it, and have other hashes.
-fn are_different(alloc: Global) -> Result<bool, AllocError> {
-    let empty = OsString::new(alloc);
-    let text = OsString::from_text(alloc, "foo")?;
-    let word = OsString::from_bytes(alloc, b"foo\xff")?;
-    let other = OsString::from_bytes(alloc, b"fop")?;
-    let are_texts = text.as_bytes() == b"foo".as_slice()
+// Whether `text` is the word of the text "foo", and `word` is another.
+fn is_foo(text: &OsString, word: &OsString) -> bool {
+    text.as_bytes() == b"foo".as_slice()
         && text.is("foo")
         && !word.is("foo")
         && word.as_os_str() != text.as_os_str()
-        && word.without_front(3).as_bytes() == b"\xff".as_slice()
-        && empty.as_os_str().is("");
-    Ok(
-        are_texts
-            && empty < text
-            && text < other
-            && text != empty
-            && hash_of(&text) == hash_of(&b"foo".as_slice())
-            && hash_of(&text) != hash_of(&other),
-    )
+}
+
+// Whether an empty word comes before the word "foo", which comes before `other`, and these two have
+// different hashes.
+fn are_ordered(empty: &OsString, foo: &OsString, other: &OsString) -> bool {
+    empty.as_os_str().is("")
+        && empty < foo
+        && foo < other
+        && foo != empty
+        && hash_of(foo) == hash_of(&b"foo".as_slice())
+        && hash_of(foo) != hash_of(other)
 }
 
 fn hash_of<T: Hash>(value: &T) -> u64 {
@@ -58,23 +54,31 @@ fn hash_of<T: Hash>(value: &T) -> u64 {
 
 #[test]
 fn other_words(rt: HostRuntime) {
-    assert!(rt; are_different(rt.alloc()).expect(&rt, "memory"));
+    let alloc = rt.alloc();
+    let empty = OsString::new(alloc);
+    let text = OsString::from_text(alloc, "foo").expect(&rt, "memory");
+    let word = OsString::from_bytes(alloc, b"foo\xff").expect(&rt, "memory");
+    let other = OsString::from_bytes(alloc, b"fop").expect(&rt, "memory");
+    let are_other = is_foo(&text, &word) && are_ordered(&empty, &text, &other);
+    assert!(rt; are_other && word.without_front(3).as_bytes() == b"\xff".as_slice());
 }
 
-// Whether a view and a word of these bytes have this text, and the word becomes it; or, if the text
-// is `None`, whether they have no text, and the word stays a word.
+// Whether a word of these bytes becomes this text, or stays a word if the text is `None`.
+fn becomes(word: OsString, bytes: &[u8], text: Option<&str>) -> bool {
+    match word.into_string() {
+        Ok(found) => {
+            let is_text = Some(found.as_str()) == text;
+            OsString::from_string(found).as_bytes() == bytes && is_text
+        }
+        Err(word) => word.as_bytes() == bytes && text.is_none(),
+    }
+}
+
+// The same, and whether a view and the word have this text, or no text if it is `None`.
 fn has_text(alloc: Global, bytes: &[u8], text: Option<&str>) -> Result<bool, AllocError> {
     let word = OsString::from_bytes(alloc, bytes)?;
     let is_text = OsStr::from_bytes(bytes).to_str() == text && word.to_str() == text;
-    Ok(
-        is_text
-            && match word.into_string() {
-                Ok(found) => {
-                    Some(found.as_str()) == text && OsString::from_string(found).as_bytes() == bytes
-                }
-                Err(word) => text.is_none() && word.as_bytes() == bytes,
-            },
-    )
+    Ok(becomes(word, bytes, text) && is_text)
 }
 
 static TEXTS: [(&[u8], Option<&str>); 5] = [
