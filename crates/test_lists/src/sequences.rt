@@ -11,6 +11,7 @@ mod step;
 
 use crate::sequences::step::{STEPS, Step, is_last, is_replayed, made};
 use lexopt_base::{Error, Parser};
+use lexopt_calls::reply::Reply;
 use std::alloc::Global;
 use std::io;
 use test_helpers::lists::list_of;
@@ -41,23 +42,32 @@ impl Tried {
         }
     }
 
-    // Makes a call, and by `replay` on a copy, and compares the replies. Returns whether the
-    // sequence continues after it.
+    // Makes a call, and compares the replies. Returns whether the sequence continues after it.
     fn call(&mut self, alloc: Global, place: &mut Place, step: Step) -> Result<bool, Error> {
         let mut copy = place.parser.clone()?;
         let found = made(alloc, &mut place.parser, step);
-        if !is_replayed(alloc, &mut copy, step, &found)? {
-            self.fault("replay has another reply");
-        }
-        Ok(!is_last(&found) && self.is_short(place.calls))
+        self.compare(alloc, &mut copy, step, &found, place.calls)
     }
 
-    // Whether a sequence of this many calls is not too long.
-    fn is_short(&mut self, calls: u32) -> bool {
+    // Makes the call by `replay` on a copy, and compares the reply with what was found.
+    fn compare(
+        &mut self,
+        alloc: Global,
+        copy: &mut Parser,
+        step: Step,
+        found: &Result<Reply, Error>,
+        calls: u32,
+    ) -> Result<bool, Error> {
+        if !is_replayed(alloc, copy, step, found)? {
+            self.fault("replay has another reply");
+        }
+        if is_last(found) {
+            return Ok(false);
+        }
         if calls > MOST_CALLS {
             self.fault("a sequence is too long");
         }
-        calls <= MOST_CALLS
+        Ok(calls <= MOST_CALLS)
     }
 
     // Makes a call after a place. Returns the place after it, if the sequence continues.
@@ -66,11 +76,8 @@ impl Tried {
             parser: place.parser.clone()?,
             calls: place.calls.saturating_add(1),
         };
-        if self.call(alloc, &mut next, step)? {
-            Ok(Some(next))
-        } else {
-            Ok(None)
-        }
+        let continues = self.call(alloc, &mut next, step)?;
+        Ok(continues.then_some(next))
     }
 
     // Tries every sequence from a place.

@@ -6,7 +6,7 @@
 use crate::lines::pieces::{first_piece, lossy, push_quoted};
 use lexopt_base::OsString;
 use lexopt_items::items::{Item, Table};
-use std::alloc::{AllocError, AllocFailed, Global};
+use std::alloc::{AllocError, Global};
 use std::mem;
 
 /// Why a line has no items.
@@ -19,12 +19,6 @@ pub enum Refusal {
 
 impl From<AllocError> for Refusal {
     fn from(_error: AllocError) -> Refusal {
-        Refusal::NoMemory
-    }
-}
-
-impl<T: Drop> From<AllocFailed<T>> for Refusal {
-    fn from(_error: AllocFailed<T>) -> Refusal {
         Refusal::NoMemory
     }
 }
@@ -142,6 +136,11 @@ fn refused(alloc: Global, name: &Name, value: Option<&[u8]>) -> Refusal {
     }
 }
 
+// Adds the word of these bytes.
+fn push_word(alloc: Global, values: &mut Vec<OsString>, bytes: &[u8]) -> Result<(), AllocError> {
+    Ok(values.push(OsString::from_bytes(alloc, bytes)?)?)
+}
+
 // Whether a word is a plain word, which an option of several values takes.
 fn is_plain(word: &[u8]) -> bool {
     word.first() != Some(&b'-') || word.len() == 1
@@ -181,6 +180,10 @@ impl Reader<'_> {
         OsString::from_bytes(self.alloc, bytes)
     }
 
+    fn push(&mut self, item: Item) -> Result<(), AllocError> {
+        Ok(self.items.push(item)?)
+    }
+
     // Ends the pending option, if there is one.
     fn close(&mut self) -> Result<(), Refusal> {
         match mem::replace(&mut self.pending, Pending::Nothing) {
@@ -190,7 +193,7 @@ impl Reader<'_> {
                 if values.is_empty() {
                     return Err(refused(self.alloc, &name, None));
                 }
-                self.items.push(name.with_values(values))?;
+                self.push(name.with_values(values))?;
             }
         }
         Ok(())
@@ -202,13 +205,13 @@ impl Reader<'_> {
             Pending::Nothing => Ok(false),
             Pending::Value(name) => {
                 let value = self.word(word)?;
-                self.items.push(name.with_value(Some(value)))?;
+                self.push(name.with_value(Some(value)))?;
                 Ok(true)
             }
             Pending::Values(name, mut values) => {
                 let takes = is_plain(word);
                 if takes {
-                    values.push(self.word(word)?)?;
+                    push_word(self.alloc, &mut values, word)?;
                 }
                 self.pending = Pending::Values(name, values);
                 Ok(takes)
@@ -227,24 +230,18 @@ impl Reader<'_> {
     }
 
     fn read_flag(&mut self, name: Name, after: After<'_>) -> Result<bool, Refusal> {
-        match after {
-            After::Joined(value) => Err(refused(self.alloc, &name, Some(value))),
-            After::Attached(_rest) => {
-                self.items.push(name.with_value(None))?;
-                Ok(false)
-            }
-            After::Nothing => {
-                self.items.push(name.with_value(None))?;
-                Ok(true)
-            }
+        if let After::Joined(value) = after {
+            return Err(refused(self.alloc, &name, Some(value)));
         }
+        self.push(name.with_value(None))?;
+        Ok(matches!(after, After::Nothing))
     }
 
     fn read_one(&mut self, name: Name, after: After<'_>) -> Result<bool, Refusal> {
         match after {
             After::Joined(value) | After::Attached(value) => {
                 let value = self.word(value)?;
-                self.items.push(name.with_value(Some(value)))?;
+                self.push(name.with_value(Some(value)))?;
             }
             After::Nothing => self.pending = Pending::Value(name),
         }
@@ -256,17 +253,17 @@ impl Reader<'_> {
             After::Joined(value) | After::Attached(value) => Some(self.word(value)?),
             After::Nothing => None,
         };
-        self.items.push(name.with_value(value))?;
+        self.push(name.with_value(value))?;
         Ok(true)
     }
 
     fn read_several(&mut self, name: Name, after: After<'_>) -> Result<bool, Refusal> {
         let mut values = Vec::new(self.alloc);
         if let After::Joined(value) | After::Attached(value) = after {
-            values.push(self.word(value)?)?;
+            push_word(self.alloc, &mut values, value)?;
         }
         if let After::Joined(_) = after {
-            self.items.push(name.with_values(values))?;
+            self.push(name.with_values(values))?;
         } else {
             self.pending = Pending::Values(name, values);
         }
@@ -305,7 +302,7 @@ impl Reader<'_> {
             }
             _ => {
                 let word = self.word(word)?;
-                self.items.push(Item::Positional(word))?;
+                self.push(Item::Positional(word))?;
             }
         }
         Ok(())
