@@ -7,13 +7,18 @@ use std::test::Fail;
 use test_helpers::calls::{is_at_end, reads_long, reads_short, reads_word, takes};
 use test_helpers::parsers::parser_of;
 
-// How `next` went, which is expected to read the option `out`.
-fn long_outcome(parser: &mut Parser) -> Outcome {
-    match &reads_long(parser, "out") {
+// How a call went that is expected to read an option.
+fn read_outcome(is_read: &Result<bool, Error>) -> Outcome {
+    match is_read {
         Ok(is_read) => Outcome::of(*is_read),
         Err(Error::OutOfMemory) => Outcome::OutOfMemory,
         Err(_) => Outcome::Wrong,
     }
+}
+
+// How `next` went, which is expected to read the option `out`.
+fn long_outcome(parser: &mut Parser) -> Outcome {
+    read_outcome(&reads_long(parser, "out"))
 }
 
 // Reads that option, again if memory runs out, and then its value `x`.
@@ -56,23 +61,28 @@ fn error_of(parser: &mut Parser, call: Call) -> Option<Error> {
     }
 }
 
-// How this call goes.
-fn outcome_of(parser: &mut Parser, call: Call) -> Outcome {
-    match (&error_of(parser, call), call) {
-        (Some(Error::UnexpectedValue { option, value }), Call::Next | Call::RawArgs) => {
-            Outcome::of(option.as_str() == "-a" && value.as_bytes() == b"b".as_slice())
+// Whether this call reports that `-a` has a value.
+fn reports_value(call: Call) -> bool {
+    matches!(call, Call::Next | Call::RawArgs)
+}
+
+// How this call went, which has this error.
+fn error_outcome(error: &Option<Error>, call: Call) -> Outcome {
+    match error {
+        Some(Error::UnexpectedValue { option, value }) => Outcome::of(
+            reports_value(call) && option.as_str() == "-a" && value.as_bytes() == b"b".as_slice(),
+        ),
+        Some(Error::MissingValue { option }) => {
+            Outcome::of(!reports_value(call) && option.as_deref() == Some("-a"))
         }
-        (
-            Some(
-                Error::MissingValue {
-                    option: Some(option),
-                },
-            ),
-            Call::Value | Call::Values,
-        ) => Outcome::of(option.as_str() == "-a"),
-        (Some(Error::OutOfMemory), _) => Outcome::OutOfMemory,
+        Some(Error::OutOfMemory) => Outcome::OutOfMemory,
         _ => Outcome::Wrong,
     }
+}
+
+// How this call goes.
+fn outcome_of(parser: &mut Parser, call: Call) -> Outcome {
+    error_outcome(&error_of(parser, call), call)
 }
 
 // Whether the parser then reads what comes after the option and its value.
@@ -93,7 +103,7 @@ fn read_past(parser: &mut Parser, call: Call) -> Result<Outcome, Error> {
     if let Outcome::OutOfMemory = outcome {
         let is_pending = parser.try_raw_args().is_none();
         let second = outcome_of(parser, call);
-        let has_value = matches!(call, Call::Next | Call::RawArgs);
+        let has_value = reports_value(call);
         outcome = outcome.and_again(second).only_if(is_pending == has_value);
     }
     Ok(outcome.only_if(is_read && reads_on(parser, call)?))

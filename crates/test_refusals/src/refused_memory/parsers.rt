@@ -59,14 +59,19 @@ fn arguments_outcome(alloc: Global, words: &[OsString]) -> Outcome {
     }
 }
 
-// How `from_env_os` went, which is expected to make a parser of these words.
-fn parser_outcome(alloc: Global, words: &[OsString]) -> Result<Outcome, Error> {
-    let unread = words.get(1..).unwrap_or(&[]);
-    match &mut Parser::from_env_os(&Arguments { words }, alloc) {
-        Ok(made) => Ok(Outcome::of(has_words(made, Some("tool\u{FFFD}"), unread)?)),
+// How a call went that is expected to make a parser with a name, and with these unread words.
+fn words_outcome(made: &mut Result<Parser, Error>, unread: &[OsString]) -> Result<Outcome, Error> {
+    match made {
+        Ok(parser) => Ok(Outcome::of(has_words(parser, Some("tool\u{FFFD}"), unread)?)),
         Err(Error::OutOfMemory) => Ok(Outcome::OutOfMemory),
         Err(_) => Ok(Outcome::Wrong),
     }
+}
+
+// How `from_env_os` went, which is expected to make a parser of these words.
+fn parser_outcome(alloc: Global, words: &[OsString]) -> Result<Outcome, Error> {
+    let made = &mut Parser::from_env_os(&Arguments { words }, alloc);
+    words_outcome(made, words.get(1..).unwrap_or(&[]))
 }
 
 // All words of an environment are returned, or none if memory runs out. Each call is made twice.
