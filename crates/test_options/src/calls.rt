@@ -1,6 +1,7 @@
 //! Each public call of `Options` on a line or a declaration.
 use crate::archive::{
-    ARCHIVE, ArchiveLeading, ArchiveLine, Flag, archive, archive_of_files, text_of_answer,
+    ARCHIVE, ArchiveLeading, ArchiveLine, ArchiveOptions, Flag, archive, archive_of_files,
+    text_of_answer,
 };
 use lexopt_options::{
     DeclarationError, Declared, Leading, Line, Names, Options, OsString, Reason, Request, Shell,
@@ -121,21 +122,23 @@ fn rows(rt: HostRuntime) {
     }
 }
 
-// Whether one spelling completes `--verb` after a positional.
-fn is_completed(alloc: Global) -> Result<bool, AllocError> {
-    let options = archive_of_files();
-    let typed = OsString::from_text(alloc, "--verb")?;
-    let found = options.complete(alloc, words_of(alloc, b"a")?, &typed)?;
-    let text = options.completion_text(alloc, words_of(alloc, b"a")?, &typed)?;
-    Ok(
-        matches!(found.spellings.as_slice(), [own] if own.text.as_str() == "--verbose")
-            && text.as_str() == "--verbose\ttell more\n",
-    )
+// Whether one spelling completes a typed word after a positional.
+fn is_completed(alloc: Global, typed: &OsString) -> Result<bool, AllocError> {
+    let found = archive_of_files().complete(alloc, words_of(alloc, b"a")?, typed)?;
+    Ok(matches!(found.spellings.as_slice(), [own] if own.text.as_str() == "--verbose"))
+}
+
+// Whether it is printed with its help.
+fn is_printed(alloc: Global, typed: &OsString) -> Result<bool, AllocError> {
+    let text = archive_of_files().completion_text(alloc, words_of(alloc, b"a")?, typed)?;
+    Ok(text.as_str() == "--verbose\ttell more\n")
 }
 
 #[test]
 fn completions(rt: HostRuntime) {
-    assert!(rt; is_completed(rt.alloc()).expect(&rt, "memory"));
+    let typed = OsString::from_text(rt.alloc(), "--verb").expect(&rt, "memory");
+    assert!(rt; is_completed(rt.alloc(), &typed).expect(&rt, "memory"));
+    assert!(rt; is_printed(rt.alloc(), &typed).expect(&rt, "memory"));
 }
 
 // Whether the texts of the declaration begin so.
@@ -151,17 +154,14 @@ fn are_texts(alloc: Global) -> Result<bool, AllocError> {
     )
 }
 
-#[test]
-fn texts(rt: HostRuntime) {
-    assert!(rt; are_texts(rt.alloc()).expect(&rt, "memory"));
-}
-
-#[test]
-fn what_was_given(rt: HostRuntime) {
-    let options = archive_of_files();
-    assert!(rt; options.program() == ARCHIVE.program && options.about() == ARCHIVE.about);
-    assert!(rt; options.epilogue().is_empty() && options.has_short_equals());
-    assert!(rt; options.options().len() == 5 && options.positionals().len() == 1);
+// Whether each part of the declaration is returned.
+fn returns_parts(options: &ArchiveOptions<'static>) -> bool {
+    options.program() == ARCHIVE.program
+        && options.about() == ARCHIVE.about
+        && options.epilogue().is_empty()
+        && options.has_short_equals()
+        && options.options().len() == 5
+        && options.positionals().len() == 1
 }
 
 // Whether the table has each option that takes values in the list of its kind.
@@ -175,18 +175,26 @@ fn has_each_kind(alloc: Global) -> Result<bool, AllocError> {
 }
 
 #[test]
-fn tables(rt: HostRuntime) {
+fn what_was_given(rt: HostRuntime) {
+    assert!(rt; returns_parts(&archive_of_files()));
+    assert!(rt; are_texts(rt.alloc()).expect(&rt, "memory"));
     assert!(rt; has_each_kind(rt.alloc()).expect(&rt, "memory"));
+}
+
+// Whether an option named by a dash is the fault of a declaration, and is printed so.
+fn is_fault(alloc: Global) -> Result<bool, AllocError> {
+    let dash = [Declared::flag(Flag::Verbose, Names::Short('-'), "")];
+    let (option, reason) = (Names::Short('-'), Reason::DashName);
+    match Options::try_new(&archive(&dash, &[])) {
+        Ok(_) => Ok(false),
+        Err(error) => Ok(
+            error == DeclarationError::Option { option, reason }
+                && error.to_string(alloc)?.as_str() == "option '--': its character is '-'",
+        ),
+    }
 }
 
 #[test]
 fn faults(rt: HostRuntime) {
-    let dash = [Declared::flag(Flag::Verbose, Names::Short('-'), "")];
-    let error = DeclarationError::Option {
-        option: Names::Short('-'),
-        reason: Reason::DashName,
-    };
-    assert_eq!(rt; Options::try_new(&archive(&dash, &[])).err(), Some(error));
-    let text = error.to_string(rt.alloc()).expect(&rt, "memory");
-    assert_eq!(rt; text.as_str(), "option '--': its character is '-'");
+    assert!(rt; is_fault(rt.alloc()).expect(&rt, "memory"));
 }

@@ -72,25 +72,15 @@ static DECLARATION: Declaration<'static, u16, u16> = declare! {
 };
 
 // Whether a line has the option with this key, and nothing else.
-fn has_option(line: &Line<'_, u16, u16>, key: u16) -> bool {
+fn has_option(line: &Result<Line<'_, u16, u16>, AllocError>, key: u16) -> Result<bool, AllocError> {
     match line {
-        Line::Parsed(parsed) => matches!(
+        Ok(Line::Parsed(parsed)) => Ok(matches!(
             parsed.as_slice(),
             [Parsed::Flag(own) | Parsed::Value(own, _)] if *own == key
-        ),
-        Line::Asked(_) | Line::Refused(_) => false,
+        )),
+        Ok(_) => Ok(false),
+        Err(_) => Err(AllocError),
     }
-}
-
-// Whether this line is read as the option with this key.
-fn is_read(
-    alloc: Global,
-    options: &Options<'_, u16, u16>,
-    line: &str,
-    key: u16,
-) -> Result<bool, AllocError> {
-    let line = options.read(alloc, words_of(alloc, line.as_bytes())?)?;
-    Ok(has_option(&line, key))
 }
 
 // Whether this option is read from its long name, with a value if it has one.
@@ -106,7 +96,8 @@ fn is_found(
         _ => return Ok(false),
     };
     let line = format!(in alloc; "--{name}{value}")?;
-    is_read(alloc, options, line.as_str(), key)
+    let words = words_of(alloc, line.as_bytes())?;
+    has_option(&options.read(alloc, words), key)
 }
 
 // How many of these options are found by their long names.

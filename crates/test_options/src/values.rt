@@ -92,11 +92,7 @@ fn conversions(rt: HostRuntime) {
             "{text}"
         );
     }
-}
-
-// Running out of memory is not a mistake in the line.
-#[test]
-fn no_memory(rt: HostRuntime) {
+    // Running out of memory is not a mistake in the line.
     let error = UsageError::from(Error::OutOfMemory);
     assert!(rt; is_reported(rt.alloc(), error, "archive: out of memory", 1).expect(&rt, "memory"));
 }

@@ -6,10 +6,13 @@ use std::alloc::{AllocError, Global};
 
 /// How many of these items are positionals.
 pub fn count_of(items: &[Item<'_>]) -> usize {
-    items
-        .iter()
-        .filter(|item| matches!(item, Item::Word(_)))
-        .count()
+    let mut count = 0usize;
+    for item in items {
+        if let Item::Word(_) = item {
+            count = count.saturating_add(1);
+        }
+    }
+    count
 }
 
 /// Whether a positional may occur more than once.
@@ -24,11 +27,16 @@ fn is_required(count: Count) -> bool {
 
 // The placeholder of the first required positional that is missing after `count` words.
 fn missing_argument(plan: &'static Plan, count: usize) -> Option<&'static str> {
-    plan.positionals
-        .iter()
-        .filter(|own| is_required(own.count))
-        .nth(count)
-        .map(|own| own.placeholder)
+    let mut left = count;
+    for own in plan.positionals {
+        if is_required(own.count) {
+            if left == 0 {
+                return Some(own.placeholder);
+            }
+            left -= 1;
+        }
+    }
+    None
 }
 
 // The names of the first required option that is not among these items.
@@ -144,9 +152,9 @@ pub fn write_missing(
 pub fn asked(plan: &Plan, items: &[Item<'_>]) -> Option<Asked<'static>> {
     for item in items {
         if let Item::Option(place, _) = item {
-            match plan.options.get(*place).map(|option| option.kind) {
-                Some(Kind::Help) => return Some(Asked::Help),
-                Some(Kind::Version(text)) => return Some(Asked::Version(text)),
+            match plan.options.get(*place)?.kind {
+                Kind::Help => return Some(Asked::Help),
+                Kind::Version(text) => return Some(Asked::Version(text)),
                 _ => {}
             }
         }

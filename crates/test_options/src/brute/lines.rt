@@ -8,7 +8,7 @@ use std::alloc::{AllocError, Global};
 use std::slice;
 use test_helpers::lists::{list_of, numbers_of};
 
-type KeyOptions = Options<'static, Key, Key, Place, Key, Key>;
+pub type KeyOptions = Options<'static, Key, Key, Place, Key, Key>;
 
 type KeyParsed = Parsed<Key, Key, Place, Key, Key>;
 
@@ -18,11 +18,12 @@ type KeyOption = Declared<'static, Key, Key, Key, Key>;
 
 // Whether these are the values, in order.
 fn are_values(values: &[&str], wanted: &[OsString]) -> bool {
+    for (value, word) in values.iter().zip(wanted) {
+        if value.as_bytes() != word.as_bytes() {
+            return false;
+        }
+    }
     values.len() == wanted.len()
-        && values
-            .iter()
-            .zip(wanted)
-            .all(|(value, word)| value.as_bytes() == word.as_bytes())
 }
 
 // Whether this is the option with these values.
@@ -56,18 +57,24 @@ fn is_item(plan: &Plan, item: &Item<'_>, place: Option<Place>, parsed: &KeyParse
     }
 }
 
-// Whether these items were read, with the keys of the positionals.
-fn are_items(plan: &Plan, items: &[Item<'_>], places: &[Place], parsed: &[KeyParsed]) -> bool {
+// Whether these items were read.
+fn are_items(
+    alloc: Global,
+    plan: &Plan,
+    items: &[Item<'_>],
+    parsed: &[KeyParsed],
+) -> Result<bool, AllocError> {
+    let places = places_of(alloc, plan, count_of(items))?;
     let mut words = 0usize;
     for (item, own) in items.iter().zip(parsed) {
         if !is_item(plan, item, places.get(words).copied(), own) {
-            return false;
+            return Ok(false);
         }
         if let Item::Word(_) = item {
             words = words.saturating_add(1);
         }
     }
-    items.len() == parsed.len()
+    Ok(items.len() == parsed.len())
 }
 
 // Whether the library and the plain reader agree on a line.
@@ -75,17 +82,16 @@ fn is_line(
     alloc: Global,
     plan: &Plan,
     reading: &Reader<'_>,
-    places: &[Place],
-    line: &KeyLine,
+    line: &Result<KeyLine, AllocError>,
 ) -> Result<bool, AllocError> {
     let items = &reading.items;
     match (asked(plan, items), reading.mistake.is_empty(), line) {
-        (Some(wanted), _, Line::Asked(found)) => Ok(wanted == *found),
-        (None, true, Line::Parsed(parsed)) => Ok(are_items(plan, items, places, parsed)),
-        (None, false, Line::Refused(refused)) => {
+        (Some(wanted), _, Ok(Line::Asked(found))) => Ok(wanted == *found),
+        (None, true, Ok(Line::Parsed(parsed))) => are_items(alloc, plan, items, parsed),
+        (None, false, Ok(Line::Refused(refused))) => {
             Ok(
                 refused.mistake.to_string(alloc)? == reading.mistake
-                    && are_items(plan, items, places, &refused.before),
+                    && are_items(alloc, plan, items, &refused.before)?,
             )
         }
         _ => Ok(false),
@@ -99,15 +105,9 @@ fn agree(
     options: &KeyOptions,
     words: &[&'static str],
 ) -> Result<bool, AllocError> {
+    let line = words_of(alloc, words)?;
     let reading = read(alloc, plan, words, true)?;
-    let places = places_of(alloc, plan, count_of(&reading.items))?;
-    is_line(
-        alloc,
-        plan,
-        &reading,
-        &places,
-        &options.read(alloc, words_of(alloc, words)?)?,
-    )
+    is_line(alloc, plan, &reading, &options.read(alloc, line))
 }
 
 // How many lines agree under this declaration, up to the first that does not.

@@ -1,8 +1,9 @@
 //! The spellings and values that are offered, compared with the plain reader.
 use crate::brute::ends::{can_own, list_of as words_in};
+use crate::brute::lines::KeyOptions;
 use crate::brute::plain::{
-    Item, Key, Next, Place, Plan, Reader, Spelling, Typed, ends_in_option, list_at, next_after,
-    place_of, read,
+    Item, Key, Next, Place, Plan, Spelling, Typed, ends_in_option, list_at, next_after, place_of,
+    read,
 };
 use crate::brute::plans::{FRONTS, SPELLINGS, TAILS, WORDS, plans};
 use crate::brute::words_of;
@@ -10,24 +11,8 @@ use lexopt_options::{Arity, Completion, Options, OsString, Spelling as Offered};
 use std::alloc::{AllocError, Global};
 use test_helpers::lists::list_of;
 
-type KeyOptions = Options<'static, Key, Key, Place, Key, Key>;
-
 // The numbers of the lists of at most two of the thirteen words are below this one.
 const PAIRS: usize = 14 * 14;
-
-// The place of the option with this spelling, if it is declared.
-fn place_of_spelling(plan: &Plan, spelling: &str) -> Option<usize> {
-    match spelling.strip_prefix("--") {
-        Some(name) => place_of(plan, Typed::Long(name)),
-        None => place_of(plan, Typed::Short(spelling.chars().last()?)),
-    }
-}
-
-// Whether this is a spelling of an option that is not hidden.
-fn is_shown(plan: &Plan, spelling: Spelling) -> bool {
-    place_of_spelling(plan, spelling.text) == Some(spelling.place)
-        && matches!(plan.options.get(spelling.place), Some(option) if !option.hidden)
-}
 
 // What can come after some words.
 #[derive(Drop)]
@@ -39,17 +24,8 @@ struct Possible {
     words: Vec<&'static str>,
 }
 
-// Whether a line is legal, and is read as `front` and then the option of the spelling.
-fn has_option(line: &Reader<'static>, front: &[Item<'static>], spelling: Spelling) -> bool {
-    line.mistake.is_empty()
-        && line.items.starts_with(front)
-        && matches!(
-            line.items.get(front.len()),
-            Some(Item::Option(own, _)) if *own == spelling.place
-        )
-}
-
-// The same for a line with these words around the spelling.
+// Whether the line with these words around a spelling is legal, and is read as `front` and then the
+// option of the spelling.
 fn goes_on(
     alloc: Global,
     plan: &'static Plan,
@@ -59,7 +35,15 @@ fn goes_on(
     after: &[&'static str],
 ) -> Result<bool, AllocError> {
     let words = [before, &[spelling.text], after].concat(alloc)?;
-    Ok(has_option(&read(alloc, plan, &words, true)?, front, spelling))
+    let line = read(alloc, plan, &words, true)?;
+    Ok(
+        line.mistake.is_empty()
+            && line.items.starts_with(front)
+            && matches!(
+                line.items.get(front.len()),
+                Some(Item::Option(own, _)) if *own == spelling.place
+            ),
+    )
 }
 
 // Whether a spelling can come after these words, which are read as `front`: a line with one of
@@ -72,7 +56,7 @@ fn can_come(
     front: &[Item<'static>],
     spelling: Spelling,
 ) -> Result<bool, AllocError> {
-    if !is_shown(plan, spelling) || !ends_in_option(alloc, plan, before, spelling, front.len())? {
+    if !ends_in_option(alloc, plan, before, spelling, front.len())? {
         return Ok(false);
     }
     for after in TAILS.iter() {
@@ -90,7 +74,7 @@ fn can_come(
     Ok(false)
 }
 
-// Adds the spellings that can come after these words, which are read so.
+// Adds the spellings that can come after these words, which are read so. A hidden option has none.
 fn add_spellings(
     alloc: Global,
     plan: &'static Plan,
@@ -98,10 +82,10 @@ fn add_spellings(
     front: &[Item<'static>],
     possible: &mut Possible,
 ) -> Result<(), AllocError> {
-    for place in 0..plan.options.len() {
+    for (place, option) in plan.options.iter().enumerate() {
         for text in SPELLINGS.iter() {
             let spelling = Spelling { text, place };
-            if can_come(alloc, plan, before, front, spelling)? {
+            if !option.hidden && can_come(alloc, plan, before, front, spelling)? {
                 possible.spellings.push(spelling)?;
             }
         }
@@ -119,9 +103,8 @@ fn add_owners(
     for (place, own) in plan.positionals.iter().enumerate() {
         if can_own(alloc, plan, items, own.key)? {
             possible.owners.push(place)?;
-            possible
-                .words
-                .extend_from_slice(words_in(own.words).unwrap_or(&[]))?;
+            let words = words_in(own.words).unwrap_or(&[]);
+            possible.words.extend_from_slice(words)?;
         }
     }
     Ok(())
@@ -169,39 +152,24 @@ fn joined_to_name(plan: &Plan, typed: &'static str) -> Option<(usize, &'static s
     Some((place, typed.strip_suffix(value)?))
 }
 
-// Whether the option at this place is a flag.
-fn is_flag(plan: &Plan, place: usize) -> bool {
-    match plan.options.get(place) {
-        Some(option) => matches!(option.kind.arity(), Arity::Zero),
-        None => false,
-    }
-}
-
-// The option whose value is typed in its cluster, and the part of the word before the value.
-fn joined_in_cluster(plan: &Plan, typed: &'static str) -> Option<(usize, &'static str)> {
-    let mut rest = typed.strip_prefix('-')?.chars();
-    while let Some(character) = rest.next() {
-        let place = place_of(plan, Typed::Short(character))?;
-        if !is_flag(plan, place) {
-            let value = rest.as_str();
-            let value = value.strip_prefix('=').unwrap_or(value);
-            return if rest.as_str().is_empty() {
-                None
-            } else {
-                Some((place, typed.strip_suffix(value)?))
-            };
-        }
-    }
-    None
-}
-
 // The option whose value is typed in its word, and the part of the word before the value.
 fn joined_option(plan: &Plan, typed: &'static str) -> Option<(usize, &'static str)> {
     if typed.starts_with("--") {
-        joined_to_name(plan, typed)
-    } else {
-        joined_in_cluster(plan, typed)
+        return joined_to_name(plan, typed);
     }
+    let mut rest = typed.strip_prefix('-')?.chars();
+    while let Some(character) = rest.next() {
+        let place = place_of(plan, Typed::Short(character))?;
+        if !matches!(plan.options.get(place)?.kind.arity(), Arity::Zero) {
+            if rest.as_str().is_empty() {
+                return None;
+            }
+            let value = rest.as_str();
+            let value = value.strip_prefix('=').unwrap_or(value);
+            return Some((place, typed.strip_suffix(value)?));
+        }
+    }
+    None
 }
 
 // Adds the texts, with `before` before each, that begin with what was typed.
@@ -249,11 +217,6 @@ fn add_values(
     Ok(())
 }
 
-// Whether a typed word can be a positional, if `next` can come there.
-fn can_be_positional(next: Next, typed: &str) -> bool {
-    next == Next::Positional || (next == Next::Option && !typed.starts_with('-'))
-}
-
 // Whether this completion of a typed word has what is possible.
 fn is_right(
     alloc: Global,
@@ -262,10 +225,10 @@ fn is_right(
     typed: &'static str,
     completion: &Completion<'static, Key, Key, Key, Key>,
 ) -> Result<bool, AllocError> {
-    let owners: &[usize] = if can_be_positional(possible.next, typed) {
-        &possible.owners
-    } else {
-        &[]
+    let owners: &[usize] = match possible.next {
+        Next::Positional => &possible.owners,
+        Next::Option if !typed.starts_with('-') => &possible.owners,
+        _ => &[],
     };
     let mut values = Vec::new(alloc);
     let words = &possible.words;

@@ -41,16 +41,22 @@ enum Meaning {
 type Offer = Step<'static, Task, Flag, Value>;
 
 // The meaning of a line, with the kind of the general option at this place.
-fn meaning_of(line: &CommandLine<'_, Task, Flag, Value>, place: usize) -> Meaning {
+fn meaning_of(
+    line: &Result<CommandLine<'_, Task, Flag, Value>, AllocError>,
+    place: usize,
+) -> Result<Meaning, AllocError> {
     match line {
-        CommandLine::Command(parsed, _, _, _) => match parsed.get(place) {
-            Some(Parsed::Flag(Flag::Verbose)) => Meaning::Command(Some(Kind::Verbose)),
-            Some(Parsed::Value(Value::Directory, _)) => Meaning::Command(Some(Kind::Directory)),
-            _ => Meaning::Command(None),
+        Ok(CommandLine::Command(parsed, _, _, _)) => match parsed.get(place) {
+            Some(Parsed::Flag(Flag::Verbose)) => Ok(Meaning::Command(Some(Kind::Verbose))),
+            Some(Parsed::Value(Value::Directory, _)) => {
+                Ok(Meaning::Command(Some(Kind::Directory)))
+            }
+            _ => Ok(Meaning::Command(None)),
         },
-        CommandLine::Asked(Asked::Help) => Meaning::Asked(Kind::Help),
-        CommandLine::Asked(Asked::Version(_)) => Meaning::Asked(Kind::Version),
-        CommandLine::Refused(_) => Meaning::Refused,
+        Ok(CommandLine::Asked(Asked::Help)) => Ok(Meaning::Asked(Kind::Help)),
+        Ok(CommandLine::Asked(Asked::Version(_))) => Ok(Meaning::Asked(Kind::Version)),
+        Ok(CommandLine::Refused(_)) => Ok(Meaning::Refused),
+        Err(_) => Err(AllocError),
     }
 }
 
@@ -62,7 +68,7 @@ fn read<'w>(
     place: usize,
 ) -> Result<Meaning, AllocError> {
     let words = words_of(alloc, &[before, after].concat(alloc)?)?;
-    Ok(meaning_of(&git().read(alloc, words)?, place))
+    meaning_of(&git().read(alloc, words), place)
 }
 
 // Whether a line of these words asks for the help.
@@ -109,17 +115,20 @@ fn has_option(
 }
 
 // How many general options were read, if there was nothing else.
-fn count_in(leading: &Leading<'_, Flag, Value>) -> Option<usize> {
+fn count_in(
+    leading: &Result<Leading<'_, Flag, Value>, AllocError>,
+) -> Result<Option<usize>, AllocError> {
     match leading {
-        Leading::Parsed(parsed, rest) if rest.is_empty() => Some(parsed.len()),
-        _ => None,
+        Ok(Leading::Parsed(parsed, rest)) if rest.is_empty() => Ok(Some(parsed.len())),
+        Ok(_) => Ok(None),
+        Err(_) => Err(AllocError),
     }
 }
 
 // How many options these words are, if they are general options and nothing else.
 fn count_of(alloc: Global, before: &[&str]) -> Result<Option<usize>, AllocError> {
     let words = words_of(alloc, before)?;
-    Ok(count_in(&git().options().read_leading(alloc, words)?))
+    count_in(&git().options().read_leading(alloc, words))
 }
 
 // Whether an option of this spelling can come after these words: they are general options and
@@ -152,15 +161,6 @@ fn offered(alloc: Global, before: &[&str], typed: &str) -> Result<Offer, AllocEr
     git().answer_request(alloc, Request::Completion(words, typed), 80)
 }
 
-// The text that is printed, which is empty after a mistake, or `None` if a command is asked.
-fn text_in(step: &Offer) -> Option<&str> {
-    match step {
-        Step::Command(_, _, _) => None,
-        Step::Text(text) => Some(text.as_str()),
-        Step::Refused(_) => Some(""),
-    }
-}
-
 // Whether this text offers exactly the names that can come.
 fn are_names(alloc: Global, before: &[&str], text: &str) -> Result<bool, AllocError> {
     for name in NAMES.iter() {
@@ -184,39 +184,40 @@ fn are_spellings(alloc: Global, before: &[&str], text: &str) -> Result<bool, All
     Ok(true)
 }
 
-// Whether these are the right names and spellings after these words. A command is asked if and only
-// if they name one.
-fn are_right(
+// Whether this is the right thing to do for a typed word after these words. A command is asked if
+// and only if they name one. Otherwise exactly the names or, for a dash, the spellings that can come
+// are offered. After a mistake no text is printed.
+fn is_right(
     alloc: Global,
     before: &[&str],
-    plain: Option<&str>,
-    dashed: Option<&str>,
+    typed: &str,
+    offer: &Result<Offer, AllocError>,
 ) -> Result<bool, AllocError> {
     let is_command = matches!(read(alloc, before, &[], 0)?, Meaning::Command(_));
-    match (plain, dashed) {
-        (Some(plain), Some(dashed)) => Ok(
-            !is_command
-                && are_names(alloc, before, plain)?
-                && are_spellings(alloc, before, dashed)?,
-        ),
-        (None, None) => Ok(is_command),
-        _ => Ok(false),
-    }
+    let text = match offer {
+        Ok(Step::Command(_, _, _)) => return Ok(is_command),
+        Ok(Step::Text(text)) => text.as_str(),
+        Ok(Step::Refused(_)) => "",
+        Err(_) => return Err(AllocError),
+    };
+    let is_offered = match typed {
+        "" => are_names(alloc, before, text)?,
+        _ => are_spellings(alloc, before, text)?,
+    };
+    Ok(is_offered && !is_command)
 }
 
-// Whether the right names and spellings are offered after these words.
-fn is_offered_right(alloc: Global, before: &[&str]) -> Result<bool, AllocError> {
-    let plain = offered(alloc, before, "")?;
-    let dashed = offered(alloc, before, "-")?;
-    are_right(alloc, before, text_in(&plain), text_in(&dashed))
+// Whether the program does the right thing.
+fn does_right(alloc: Global, before: &[&str], typed: &str) -> Result<bool, AllocError> {
+    is_right(alloc, before, typed, &offered(alloc, before, typed))
 }
 
-// For how many lines of at most two words they are. The numbers of these lines are below 9 * 9.
-fn right_lines(alloc: Global) -> usize {
+// For how many lines of at most two words it does. The numbers of these lines are below 9 * 9.
+fn right_lines(alloc: Global, typed: &str) -> usize {
     let mut right = 0usize;
     for number in 0..81 {
         if let Ok(Some(before)) = list_of(alloc, &WORDS, number) {
-            if let Ok(true) = is_offered_right(alloc, &before) {
+            if let Ok(true) = does_right(alloc, &before, typed) {
                 right = right.saturating_add(1);
             }
         }
@@ -227,5 +228,7 @@ fn right_lines(alloc: Global) -> usize {
 // All lines of at most two of the words: 1 + 8 + 64.
 #[test]
 fn lines(rt: HostRuntime) {
-    assert_eq!(rt; right_lines(rt.alloc()), 73);
+    for typed in ["", "-"] {
+        assert_eq!(rt; right_lines(rt.alloc(), typed), 73);
+    }
 }

@@ -1,6 +1,6 @@
 //! Each public call of `Commands`, and the words, the variable and `COLUMNS` of an environment.
 use crate::commands::git::{Flag, Task, Value, git};
-use lexopt_commands::{Command, CommandLine, Commands, Runs, Step};
+use lexopt_commands::{Command, CommandLine, Commands, Step, declare_commands};
 use lexopt_options::{OsString, Request};
 use std::alloc::{AllocError, Global};
 use std::fmt::Debug;
@@ -198,15 +198,11 @@ fn what_was_given(rt: HostRuntime) {
     assert!(rt; are_texts(rt.alloc()).expect(&rt, "memory"));
 }
 
-static BLANK: [Command<'static, Task>; 1] = [Command {
-    name: "a b",
-    help: "",
-    runs: Runs::Command(Task::Add),
-}];
+static BLANK: &[Command<'static, Task>] = declare_commands![command(Task::Add, "a b", "")];
 
 // Why a name with a blank cannot be declared.
 fn text_of_fault(alloc: Global) -> Result<String, AllocError> {
-    match Commands::try_new(git().options(), &BLANK) {
+    match Commands::try_new(git().options(), BLANK) {
         Ok(_) => Ok(String::new(alloc)),
         Err(error) => error.to_string(alloc),
     }

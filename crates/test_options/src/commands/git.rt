@@ -2,17 +2,17 @@
 use lexopt_commands::{Command, Commands, declare_commands};
 use lexopt_options::{Declaration, Names, Options, declare};
 
-#[derive(Debug, Clone, Copy, PartialEq, Eq)]
+#[derive(Debug, Clone, Copy)]
 pub enum Flag {
     Verbose,
 }
 
-#[derive(Debug, Clone, Copy, PartialEq, Eq)]
+#[derive(Debug, Clone, Copy)]
 pub enum Value {
     Directory,
 }
 
-#[derive(Debug, Clone, Copy, PartialEq, Eq)]
+#[derive(Debug, Clone, Copy)]
 pub enum Task {
     Add,
     Remove,

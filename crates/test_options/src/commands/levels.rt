@@ -3,7 +3,7 @@
 use crate::commands::calls::text_of_step;
 use crate::commands::git::{Flag, Task, Value, git};
 use lexopt_commands::{Call, Command, Commands, Step, declare_commands};
-use lexopt_options::{Answer, Declaration, Names, Options, Request, declare};
+use lexopt_options::{Answer, Declaration, Names, Options, Parsed, Request, declare};
 use std::alloc::{AllocError, Global};
 use std::convert::Infallible;
 use test_helpers::parsers::words_of;
@@ -65,15 +65,24 @@ static ROWS: [(Option<&[u8]>, &[u8], &str); 6] = [
     ),
 ];
 
-// What is read of the words of `remote add`, or printed.
-fn text_of_add(alloc: Global, path: &str, call: Call<Flag, Value>) -> Result<String, AllocError> {
-    let options = Options::new(&ADD).with_program(path);
-    let (general, answer) = call.answer(alloc, &options, 80)?;
-    match &answer {
+// What is read, after these general options, or printed.
+fn text_of_answer(
+    alloc: Global,
+    general: &[Parsed<Flag, Value>],
+    answer: &Answer<'_, Infallible, Infallible, ()>,
+) -> Result<String, AllocError> {
+    match answer {
         Answer::Parsed(line) => format!(in alloc; "{general:?} {line:?}"),
         Answer::Text(text) => text.to_string(alloc),
         Answer::Refused(refused) => refused.to_string(alloc),
     }
+}
+
+// The same of the words of `remote add`.
+fn text_of_add(alloc: Global, path: &str, call: Call<Flag, Value>) -> Result<String, AllocError> {
+    let options = Options::new(&ADD).with_program(path);
+    let (general, answer) = call.answer(alloc, &options, 80)?;
+    text_of_answer(alloc, &general, &answer)
 }
 
 // What is read of the words of `remote`, or printed.
