@@ -1,22 +1,14 @@
-//! Calls that run out of memory. The script `refused_memory` beside `src` runs these tests many
-//! times, and makes one allocation fail in each run: each allocation in turn.
+//! Calls that run out of memory, and are made again. The script `refused_memory` beside `src` runs
+//! these tests many times, and makes one allocation fail in each run: each allocation in turn.
 //!
 //! A test checks the call that ran out of memory, and what the same call returns when it is made
 //! again. The test then fails, and names that call. If no allocation fails, every test passes.
 
 mod call_lists;
-mod declared_commands;
-mod declared_options;
 mod parser_calls;
-mod parsers;
 mod script_runs;
-mod spell_calls;
-mod whole_lines;
 mod word_calls;
 
-use lexopt_options::{Declaration, Names, declare};
-use std::alloc::{AllocError, Global};
-use std::fmt::Display;
 use std::test::Fail;
 
 /// How a call went, or a call and the same call made again.
@@ -56,17 +48,6 @@ impl Outcome {
     }
 }
 
-/// How a call went that is expected to return what prints this text.
-pub fn printed_outcome(
-    alloc: Global,
-    printed: &impl Display,
-    wanted: &str,
-) -> Result<Outcome, AllocError> {
-    let mut text = String::with_capacity(alloc, 400)?;
-    write!(text, "{printed}")?;
-    Ok(Outcome::of(text.as_str() == wanted))
-}
-
 /// Fails a test, which names the call that ran out of memory.
 pub fn out_of_memory_in(call: &str) -> Result<(), Fail> {
     Err(Fail::new(format_args!("{call} ran out of memory")))
@@ -80,16 +61,3 @@ pub fn check_outcome(outcome: Outcome, call: &str) -> Result<(), Fail> {
         Outcome::Wrong => Err(Fail::new("a call returned another result")),
     }
 }
-
-/// A flag, an option with a value, the help and the version. The keys are characters.
-pub static PACK: Declaration<'static, char, char, char> = declare! {
-    program: "pack",
-    about: "Packs.",
-    options: [
-        flag('v', Names::Both('v', "verbose"), "tell more"),
-        value('o', Names::Both('o', "output"), "FILE", "write to this file"),
-        help(Names::Both('h', "help")),
-        version(Names::Long("version"), "pack 1.0"),
-    ],
-    positionals: [any_number('f', "FILE")],
-};
