@@ -42,14 +42,16 @@ impl Tried {
         }
     }
 
-    // Makes a call, and compares the replies. Returns whether the sequence continues after it.
+    // Makes a call, also by `replay` on a copy, and compares the replies. Returns whether the sequence
+    // continues after it.
     fn call(&mut self, alloc: Global, place: &mut Place, step: Step) -> Result<bool, Error> {
         let mut copy = place.parser.clone()?;
         let found = made(alloc, &mut place.parser, step);
         self.compare(alloc, &mut copy, step, &found, place.calls)
     }
 
-    // Makes the call by `replay` on a copy, and compares the reply with what was found.
+    // Makes the call by `replay` on this copy, and compares the reply with what was found. Returns
+    // whether the sequence continues after the call.
     fn compare(
         &mut self,
         alloc: Global,

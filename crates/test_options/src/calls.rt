@@ -175,7 +175,7 @@ fn has_each_kind(alloc: Global) -> Result<bool, AllocError> {
 }
 
 #[test]
-fn what_was_given(rt: HostRuntime) {
+fn parts_texts_and_table(rt: HostRuntime) {
     assert!(rt; returns_parts(&archive_of_files()));
     assert!(rt; are_texts(rt.alloc()).expect(&rt, "memory"));
     assert!(rt; has_each_kind(rt.alloc()).expect(&rt, "memory"));
