@@ -1,7 +1,6 @@
-//! Tests of declared commands: each public call once, what is read from an environment, and
-//! completion, compared with reading.
+//! Tests of declared commands: each public call once, what is read from an environment, and a command
+//! that has commands of its own.
 
-mod brute;
 mod calls;
 mod git;
 mod levels;

@@ -1,12 +1,9 @@
 //! Tests of declared options: each public call once, what the library reads from an environment,
-//! what `declare!` makes, and the texts of failed conversions; reading and completion by brute
-//! force; and tests of declared commands.
+//! what `declare!` makes, and the texts of failed conversions; and tests of declared commands.
 #![tactic(auto)]
 
 #[cfg(test)]
 mod archive;
-#[cfg(test)]
-mod brute;
 #[cfg(test)]
 mod calls;
 #[cfg(test)]

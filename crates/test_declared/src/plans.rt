@@ -1,54 +1,25 @@
-//! The words of the lines, and the declarations by which they are read.
-use crate::brute::plain::{Key, Place, Plan};
-use lexopt_options::{Names, declare};
+//! The declarations by which lines are read.
+use lexopt_options::{Declaration, Names, Options, declare};
 
-/// The words of the lines. No name in them is near another declared name, or begins one, so no
-/// message has a hint.
-pub static WORDS: [&str; 13] = [
-    "-v",
-    "-vx",
-    "--user",
-    "--user=u",
-    "-u",
-    "-uu",
-    "--",
-    "--help",
-    "-h",
-    "a",
-    "",
-    "--verbose=1",
-    "x",
-];
+/// The key of an option.
+#[derive(Debug, Clone, Copy)]
+pub enum Key {
+    Verbose,
+    Extra,
+    User,
+}
 
-/// Words that are tried first after a spelling. Most spellings that can come have a legal line with
-/// one of these.
-pub static TAILS: [&[&str]; 19] = [
-    &[],
-    &["a"],
-    &["u"],
-    &["-uu"],
-    &["-vx"],
-    &["--verbose=1"],
-    &["u", "a"],
-    &["-uu", "a"],
-    &["-vx", "a"],
-    &["u", "-vx"],
-    &["-vx", "-uu"],
-    &["-u", "u"],
-    &["u", "--verbose=1"],
-    &["-uu", "--verbose=1"],
-    &["u", "--", "a"],
-    &["u", "a", "a"],
-    &["-uu", "a", "a"],
-    &["u", "-vx", "a"],
-    &["-vx", "-uu", "a"],
-];
+/// The key of a positional.
+#[derive(Debug, Clone, Copy)]
+pub enum Place {
+    First,
+    Second,
+    Third,
+}
 
-/// The spellings of all declared options. The short name of an option comes first.
-pub static SPELLINGS: [&str; 7] = ["-v", "--verbose", "-x", "-u", "--user", "-h", "--help"];
+type Plan = Declaration<'static, Key, Key, Place, Key, Key>;
 
-/// The typed words for which spellings and values are offered.
-pub static FRONTS: [&str; 8] = ["", "-", "--", "--u", "--user=", "u", "-uu", "-vu="];
+pub type PlanOptions = Options<'static, Key, Key, Place, Key, Key>;
 
 // A required option with a list of values, and two positionals. The first may occur more than once,
 // and the second has a list of words.
@@ -120,7 +91,14 @@ static STRICT: Plan = declare! {
     ],
 };
 
-/// The declarations by which lines are read.
-pub fn plans() -> [&'static Plan; 5] {
-    [&SOURCES, &RENAME, &OPEN, &ASKED, &STRICT]
+/// The options of the declaration with this digit.
+pub fn options_of(digit: u8) -> Option<PlanOptions> {
+    match digit {
+        b'0' => Some(Options::new(&SOURCES)),
+        b'1' => Some(Options::new(&RENAME)),
+        b'2' => Some(Options::new(&OPEN)),
+        b'3' => Some(Options::new(&ASKED)),
+        b'4' => Some(Options::new(&STRICT)),
+        _ => None,
+    }
 }
