@@ -1,5 +1,6 @@
 //! The words that a program was called with: `arguments` and `from_env_os`, which take any bytes,
 //! and `from_env`, which refuses words that are not UTF-8.
+use crate::errors::prints;
 use lexopt_base::{Error, OsString, Parser};
 use lexopt_words::os_string::arguments;
 use std::alloc::{AllocError, Global};
@@ -7,7 +8,6 @@ use std::env;
 use std::env::Env;
 use test_helpers::calls::has_words;
 use test_helpers::environments::Arguments;
-use test_helpers::errors::prints;
 use test_helpers::parsers::words_from;
 
 // Whether a parser of these words has this name, and its unread words are those after the first.

@@ -1,9 +1,9 @@
 //! Conversions of values. No clause states the text of an error of `FromStr`.
+use crate::errors::prints;
 use lexopt_base::prelude::ValueExt;
 use lexopt_base::{Error, OsString};
 use std::alloc::{AllocError, Global};
 use std::fmt;
-use test_helpers::errors::prints;
 
 // An error of the program's own.
 #[derive(Debug, Drop)]

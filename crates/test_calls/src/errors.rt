@@ -4,7 +4,13 @@ use lexopt_base::{Arg, Error, OsString};
 use lexopt_calls::run_error::RunError;
 use std::alloc::{AllocError, Global};
 use std::process::Abort;
-use test_helpers::errors::prints;
+
+/// Whether `Display` and `Debug` of an error both write this message.
+pub fn prints(alloc: Global, error: &Error, message: &str) -> Result<bool, AllocError> {
+    let displayed = error.to_string(alloc)?;
+    let debugged = format!(in alloc; "{error:?}")?;
+    Ok(displayed.as_str() == message && debugged.as_str() == message)
+}
 
 // How an error is made.
 #[derive(Clone, Copy)]

@@ -1,11 +1,11 @@
 //! Scripts whose readers and writers fail, are slow or never end, and scripts that a case file
 //! cannot express.
+use crate::scripts::{SCRIPT, WRITTEN};
 use lexopt::replay::{RunError, run};
 use std::alloc::{AllocError, Global};
 use std::io;
 use std::io::{Read, Write};
 use std::test::Fail;
-use test_helpers::scripts::{SCRIPT, WRITTEN};
 
 // Reads one byte at a time, and fails at this read, counted from 1. If `fails_at` is 0, no read
 // fails.

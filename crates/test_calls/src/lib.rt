@@ -20,6 +20,8 @@ mod errors;
 #[cfg(test)]
 mod faults;
 #[cfg(test)]
+mod items;
+#[cfg(test)]
 mod many_options;
 #[cfg(test)]
 mod names;
@@ -27,6 +29,8 @@ mod names;
 mod refused_memory;
 #[cfg(test)]
 mod replays;
+#[cfg(test)]
+mod scripts;
 #[cfg(test)]
 mod sizes;
 #[cfg(test)]

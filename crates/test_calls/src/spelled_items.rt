@@ -1,10 +1,10 @@
 //! Items that `spell` turns into words, and what its errors print. The forms of all kinds of items
 //! are worked examples of `lexopt_laws`.
+use crate::items::{are_words, table_of_each_kind};
 use lexopt::Error;
 use lexopt::replay::{Item, Table, read_items};
 use lexopt::spell::{Reason, SpellError, spell};
 use std::alloc::Global;
-use test_helpers::items::{are_words, table_of_each_kind};
 use test_helpers::parsers::words_from;
 
 // The words that `spell` chooses for an item of each kind.

@@ -1,8 +1,8 @@
 //! Views of several values and of the unread words, used in ways that a script cannot use them.
+use crate::items::are_words;
 use lexopt::{Error, OsStr, OsString, Parser, RawArgs};
 use std::alloc::Global;
 use test_helpers::calls::{gives, is_at_end, reads_short, reads_word};
-use test_helpers::items::are_words;
 use test_helpers::parsers::parser_of;
 
 // Whether `-a` has the values `b` and `c`, by `next` or by `collect`, and then `-d` comes.

@@ -23,13 +23,13 @@ use crate::lines::pieces::push_quoted;
 use crate::lines::plain::Refusal;
 use crate::lines::tables::{CHOICES, Choice, OVERLAPS};
 use crate::lines::tally::Tally;
+use crate::lists::list_of;
+use crate::words::WORDS;
 use lexopt_base::Error;
 use lexopt_items::items::{Item, Table, read_items};
 use std::alloc::{AllocError, Global};
 use std::io;
-use test_helpers::lists::list_of;
 use test_helpers::parsers::words_from;
-use test_helpers::words::WORDS;
 
 // Whether both readers read the same items, or refuse the line with the same message.
 fn agree(

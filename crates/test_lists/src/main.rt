@@ -6,11 +6,13 @@
 
 mod cases;
 mod lines;
+mod lists;
 mod sequences;
+mod words;
 
+use lists::numbers_of;
 use std::{env, io};
-use test_helpers::lists::numbers_of;
-use test_helpers::words::WORDS;
+use words::WORDS;
 
 fn main(rt: HostRuntime) -> io::Result<()> {
     cases::print(&rt)?;

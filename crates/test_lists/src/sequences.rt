@@ -9,14 +9,14 @@
 
 mod step;
 
+use crate::lists::list_of;
 use crate::sequences::step::{STEPS, Step, is_last, is_replayed, made};
+use crate::words::WORDS;
 use lexopt_base::{Error, Parser};
 use lexopt_calls::reply::Reply;
 use std::alloc::Global;
 use std::io;
-use test_helpers::lists::list_of;
 use test_helpers::parsers::parser_of;
-use test_helpers::words::WORDS;
 
 // The greatest length of a sequence.
 const MOST_CALLS: u32 = 100;

@@ -1,9 +1,9 @@
 //! The stored script. If a call runs out of memory, its line is `error: out of memory`, and every
 //! other line is as if that call had not been made. The other scripts are cases of `test_lists`.
 use crate::refused_memory::out_of_memory_in;
+use crate::scripts::{SCRIPT, WRITTEN};
 use lexopt::replay::{RunError, run};
 use std::test::Fail;
-use test_helpers::scripts::{SCRIPT, WRITTEN};
 
 // The output of the stored script if its first `next` runs out of memory.
 const NEXT_FAILED: &[u8] =
