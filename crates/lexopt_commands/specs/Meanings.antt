@@ -1,6 +1,8 @@
 -- What words from the name of a command on mean. The source is `docs/behaviour.md`.
-use Rattle.std.specs.Prelude.{ℕ, ◌==◌, if◌then◌else◌, List, [], ◌∷◌, ◌++◌, codes}
+use Rattle.std.specs.Prelude.{ℕ, ◌==◌, if◌then◌else◌, nat_eq, List, [], ◌∷◌, codes, length}
 use Rattle.std.specs.Prelude.{Option, Some, None, position, slice_get}
+use Rattle.std.specs.List.{insert, starts_with}
+use Rattle.std.specs.Option.{unwrap_or}
 use Rattle.std.specs.Cmp.Lexicographic.{pointwise}
 use Rattle.lexopt_commands.specs.declared.command.Command.{Command}
 use Rattle.lexopt_commands.specs.declared.command.Runs.{Runs}
@@ -30,10 +32,19 @@ pub data Meaning (C : Type 0) : Type 0 where
 abbrev pub help_word : List ℕ
 help_word = codes "--help"
 
+-- the index of the first of these words that begins with a dash
+abbrev pub first_dashed : List (List ℕ) → Option ℕ
+first_dashed words = position (λ word. starts_with nat_eq word (codes "-")) words
+
+-- these words, and the word that asks a command for its help: it comes before the first of them that
+-- begins with a dash, or after all if none does, so that no option and no separator comes before it
+abbrev pub with_help : List (List ℕ) → List (List ℕ)
+with_help words = insert words (unwrap_or (first_dashed words) (length words)) help_word
+
 -- what a name and the words after it mean after a name that asks for the help, by what the name
--- does: a command gets the words after its name, and then the word that asks for its help
+-- does: a command gets the words after its name, and the word that asks for its help among them
 abbrev pub helped_by : {C : Type 0} → Runs C → List ℕ → List (List ℕ) → Meaning C
-helped_by (runs.Command key) name rest = command name key (rest ++ help_word ∷ [])
+helped_by (runs.Command key) name rest = command name key (with_help rest)
 helped_by runs.Help name rest = help
 
 -- what a word and the words after it mean after a name that asks for the help, by the command that
@@ -41,7 +52,7 @@ helped_by runs.Help name rest = help
 abbrev pub helped : {C : Type 0} → Option (Command C) → List ℕ → List (List ℕ) → Meaning C
 helped (Some own) word rest = helped_by own.runs own.name.now rest
 helped None word rest =
-    if pointwise ◌==◌ word help_word then help else unknown word (rest ++ help_word ∷ [])
+    if pointwise ◌==◌ word help_word then help else unknown word (with_help rest)
 
 -- what words mean after a name that asks for the help
 abbrev pub help_of : {C : Type 0} → List (Command C) → List (List ℕ) → Meaning C

@@ -1,10 +1,10 @@
 //! Worked examples of the definitions, which the prover computes.
-ghost use Rattle.std.specs.Prelude.{◌≡◌, ◌∷◌, ◌++◌, [], ℕ, List, None, Some, codes, true};
+ghost use Rattle.std.specs.Prelude.{◌≡◌, ◌∷◌, [], ℕ, List, None, Some, codes, true};
 ghost use Rattle.lexopt_commands.specs.declared.command.Command as one;
 ghost use Rattle.lexopt_commands.specs.declared.command.Reason.TheVariants as reason;
 ghost use Rattle.lexopt_commands.specs.declared.command.Runs.TheVariants as runs;
 ghost use Rattle.lexopt_commands.specs.Meanings.{command, command_of, help, meaning, missing};
-ghost use Rattle.lexopt_commands.specs.Meanings.{unknown};
+ghost use Rattle.lexopt_commands.specs.Meanings.{unknown, with_help};
 ghost use Rattle.lexopt_commands.specs.Names.{can_be_declared, first_fault};
 
 use crate::command::Command;
@@ -54,7 +54,7 @@ pub fn words_mean_so<C>(commands: &[Command<'_, C>])
         → command_of commands.now first ≡ Some asks → asks.runs ≡ runs.Help
         → command_of commands.now word ≡ Some own → own.runs ≡ runs.Command key
         → meaning commands.now (first ∷ word ∷ rest)
-        ≡ command own.name.now key (rest ++ codes "--help" ∷ []) }
+        ≡ command own.name.now key (with_help rest) }
     ensures help_twice { (asks own : one.Command C) (first second : List ℕ) (rest : List (List ℕ))
         → command_of commands.now first ≡ Some asks → asks.runs ≡ runs.Help
         → command_of commands.now second ≡ Some own → own.runs ≡ runs.Help
@@ -66,6 +66,19 @@ pub fn words_mean_so<C>(commands: &[Command<'_, C>])
     ensures help_of_another { (asks : one.Command C) (first : List ℕ) (rest : List (List ℕ))
         → command_of commands.now first ≡ Some asks → asks.runs ≡ runs.Help
         → command_of commands.now (codes "-h") ≡ None
-        → meaning commands.now (first ∷ codes "-h" ∷ rest)
-        ≡ unknown (codes "-h") (rest ++ codes "--help" ∷ []) }
+        → meaning commands.now (first ∷ codes "-h" ∷ rest) ≡ unknown (codes "-h") (with_help rest) }
+{}
+
+/// Where the word is that asks a command for its help, among the words after its name: no option
+/// and no separator comes before it.
+pub fn help_is_asked_before_options()
+    ensures no_words { with_help [] ≡ codes "--help" ∷ [] }
+    ensures plain { with_help (codes "add" ∷ codes "" ∷ [])
+        ≡ codes "add" ∷ codes "" ∷ codes "--help" ∷ [] }
+    ensures separator { with_help (codes "add" ∷ codes "--" ∷ [])
+        ≡ codes "add" ∷ codes "--help" ∷ codes "--" ∷ [] }
+    ensures option { with_help (codes "-m" ∷ codes "add" ∷ [])
+        ≡ codes "--help" ∷ codes "-m" ∷ codes "add" ∷ [] }
+    ensures one_dash { with_help (codes "a-" ∷ codes "-" ∷ codes "-x" ∷ [])
+        ≡ codes "a-" ∷ codes "--help" ∷ codes "-" ∷ codes "-x" ∷ [] }
 {}

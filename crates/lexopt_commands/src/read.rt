@@ -1,10 +1,11 @@
 //! Reads a line up to the name of a command, and what that name and the words after it mean. The
 //! file of this name in `lexopt_options` reads whole lines.
-ghost use Rattle.std.specs.Prelude.{◌≡◌, ◌==◌, ◌∷◌, ◌++◌, [], IfOk, None, map, position};
+ghost use Rattle.std.specs.Prelude.{◌≡◌, ◌==◌, ◌∷◌, [], IfOk, None, codes, map, nat_eq, position};
+ghost use Rattle.std.specs.List.{starts_with};
 ghost use Rattle.std.specs.Option.{MatchOption};
 ghost use Rattle.std.specs.Cmp.Lexicographic.{pointwise};
-ghost use Rattle.lexopt_commands.specs.Meanings.{command_at, command_of, help_of, help_word, helped};
-ghost use Rattle.lexopt_commands.specs.Meanings.{meaning};
+ghost use Rattle.lexopt_commands.specs.Meanings.{command_at, command_of, first_dashed, help_of};
+ghost use Rattle.lexopt_commands.specs.Meanings.{helped, meaning, with_help};
 ghost use Rattle.lexopt_commands.specs.Mistakes.{IsHint};
 ghost use Rattle.lexopt_commands.specs.Names.{names_of};
 ghost use Rattle.lexopt_commands.specs.Views.{meaning_view};
@@ -94,12 +95,28 @@ pub(crate) fn take_first(words: &mut Vec<OsString>) -> Option<OsString>
     }
 }
 
-// These words, and after them the word that asks a command for its help.
+// Whether a word begins with a dash.
+fn begins_with_dash(word: &OsString) -> bool
+    ensures { result ≡ starts_with nat_eq word.now (codes "-") }
+{
+    word.as_bytes().starts_with(b"-".as_slice())
+}
+
+// The index of the first of these words that begins with a dash.
+fn first_dashed(words: &[OsString]) -> Option<usize>
+    ensures { result ≡ first_dashed words.now }
+{
+    words.iter().position(|word| begins_with_dash(word))
+}
+
+// These words, and the word that asks a command for its help: before the first of them that begins
+// with a dash, or after all.
 fn with_help(alloc: Global, words: Vec<OsString>) -> Result<Vec<OsString>, AllocError>
-    ensures { IfOk result (λ all. all.items ≡ words.items ++ help_word ∷ []) }
+    ensures { IfOk result (λ all. all.items ≡ with_help words.items) }
 {
     let mut words = words;
-    words.push(OsString::from_text(alloc, HELP)?)?;
+    let place = first_dashed(&words).unwrap_or(words.len());
+    words.insert(place, OsString::from_text(alloc, HELP)?)?;
     Ok(words)
 }
 

@@ -56,12 +56,18 @@ pub fn read_tasks<'a, F: Copy, V: Copy, M: Copy, S: Copy>(
         → MeansLeading (declaration_of options.entry) words.items l (codes "remote" ∷ rest)
         → IfOk result (λ line. IsTask (options_of options.entry) l (codes "remote")
         task.Remote rest line) }
-    ensures help_of_a_command { (l : List legal.Parsed) (rest : List (List ℕ))
+    ensures help_of_a_command { (l : List legal.Parsed)
         → first_asked (declaration_of options.entry).options l ≡ None
         → MeansLeading (declaration_of options.entry) words.items l
-        (codes "help" ∷ codes "remote" ∷ rest)
+        (codes "help" ∷ codes "remote" ∷ codes "add" ∷ [])
         → IfOk result (λ line. IsTask (options_of options.entry) l (codes "remote") task.Remote
-        (rest ++ codes "--help" ∷ []) line) }
+        (codes "add" ∷ codes "--help" ∷ []) line) }
+    ensures help_before_a_separator { (l : List legal.Parsed)
+        → first_asked (declaration_of options.entry).options l ≡ None
+        → MeansLeading (declaration_of options.entry) words.items l
+        (codes "help" ∷ codes "remote" ∷ codes "add" ∷ codes "--" ∷ codes "-x" ∷ [])
+        → IfOk result (λ line. IsTask (options_of options.entry) l (codes "remote") task.Remote
+        (codes "add" ∷ codes "--help" ∷ codes "--" ∷ codes "-x" ∷ []) line) }
     ensures help { (l : List legal.Parsed)
         → first_asked (declaration_of options.entry).options l ≡ None
         → MeansLeading (declaration_of options.entry) words.items l (codes "help" ∷ [])

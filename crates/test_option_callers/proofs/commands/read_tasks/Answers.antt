@@ -17,9 +17,16 @@ returns-clause-command g c = λ l rest none means.
     (c.read.ensures.answered l words (of_options c.new.result.options c.args.options c.args.words.items l words c.new.ensures.options means))
 
 pub returns-clause-help_of_a_command : goal.returns-clause-help_of_a_command
-returns-clause-help_of_a_command g c = λ l rest none means.
-    let words = codes "help" ∷ codes "remote" ∷ rest in
-    IfOk-weaker c.read.result _ _ (λ it of. task_line c.new.result c.args.options l words (rest ++ codes "--help" ∷ []) (codes "remote") task.Remote it c.new.ensures.options none (ap (λ cs. meaning cs words) c.new.ensures.commands) of)
+returns-clause-help_of_a_command g c = λ l none means.
+    let words = codes "help" ∷ codes "remote" ∷ codes "add" ∷ [] in
+    IfOk-weaker c.read.result _ _ (λ it of. task_line c.new.result c.args.options l words (codes "add" ∷ codes "--help" ∷ []) (codes "remote") task.Remote it c.new.ensures.options none (ap (λ cs. meaning cs words) c.new.ensures.commands) of)
+    (c.read.ensures.answered l words (of_options c.new.result.options c.args.options c.args.words.items l words c.new.ensures.options means))
+
+pub returns-clause-help_before_a_separator : goal.returns-clause-help_before_a_separator
+returns-clause-help_before_a_separator g c = λ l none means.
+    let after = codes "--" ∷ codes "-x" ∷ [] in
+    let words = codes "help" ∷ codes "remote" ∷ codes "add" ∷ after in
+    IfOk-weaker c.read.result _ _ (λ it of. task_line c.new.result c.args.options l words (codes "add" ∷ codes "--help" ∷ after) (codes "remote") task.Remote it c.new.ensures.options none (ap (λ cs. meaning cs words) c.new.ensures.commands) of)
     (c.read.ensures.answered l words (of_options c.new.result.options c.args.options c.args.words.items l words c.new.ensures.options means))
 
 pub returns-clause-help : goal.returns-clause-help
