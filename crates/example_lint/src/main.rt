@@ -43,14 +43,15 @@ fn read_argument(alloc: Global, parser: &mut Parser) -> Result<Found, Error> {
         }
         Some(Short('h') | Long("help")) => return Ok(Found::Help),
         Some(Value(_file)) => {}
-        Some(Long(name)) => {
-            let error = Long(name).unexpected(alloc);
-            // A value that is joined to an unknown long option is not an error of its own. What
+        Some(argument) => {
+            let error = argument.unexpected(alloc);
+            // A value that `=` joins to an unknown option is not an error of its own. What else
             // comes after a short option may be more options, which are read next.
-            let _value = parser.optional_value();
+            if parser.has_joined_value() {
+                let _value = parser.optional_value();
+            }
             return Err(error);
         }
-        Some(argument) => return Err(argument.unexpected(alloc)),
         None => return Ok(Found::End),
     }
     Ok(Found::Argument)
