@@ -62,6 +62,12 @@ pub fn read_tasks<'a, F: Copy, V: Copy, M: Copy, S: Copy>(
         (codes "help" ∷ codes "remote" ∷ codes "add" ∷ [])
         → IfOk result (λ line. IsTask (options_of options.entry) l (codes "remote") task.Remote
         (codes "add" ∷ codes "--help" ∷ []) line) }
+    ensures help_before_a_dash { (l : List legal.Parsed) (word : List ℕ) (rest : List (List ℕ))
+        → first_asked (declaration_of options.entry).options l ≡ None
+        → MeansLeading (declaration_of options.entry) words.items l
+        (codes "help" ∷ codes "remote" ∷ (codes "-" ++ word) ∷ rest)
+        → IfOk result (λ line. IsTask (options_of options.entry) l (codes "remote") task.Remote
+        (codes "--help" ∷ (codes "-" ++ word) ∷ rest) line) }
     ensures help_before_a_separator { (l : List legal.Parsed)
         → first_asked (declaration_of options.entry).options l ≡ None
         → MeansLeading (declaration_of options.entry) words.items l
