@@ -72,7 +72,7 @@ fn push_after_long(out: &mut String, arity: Arity<'_>) -> Result<(), AllocError>
         Arity::Zero => Ok(()),
         Arity::One(value) => write!(out, "={value}"),
         Arity::Optional(value) => write!(out, "[={value}]"),
-        Arity::Several(value) => write!(out, "={value}..."),
+        Arity::Several(value) => write!(out, " {value}..."),
     }
 }
 

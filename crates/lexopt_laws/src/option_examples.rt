@@ -1152,7 +1152,8 @@ fn forms_are_shown()
         (spec.option (long (codes "backup")) None) }
     ensures long_optional_value { LabelForm backup (codes "--backup[=SUFFIX]") (codes "--backup=SUFFIX" ∷ [])
         (spec.option (long (codes "backup")) (Some (codes "SUFFIX"))) }
-    ensures long_several { LabelForm exclude (codes "--exclude=PATTERN...") (codes "--exclude=PATTERN" ∷ [])
+    ensures long_several { LabelForm exclude (codes "--exclude PATTERN...")
+        (codes "--exclude" ∷ codes "PATTERN" ∷ [])
         (many (long (codes "exclude")) (codes "PATTERN" ∷ [])) }
     ensures text_names { HasTextNames verbose }
     ensures no_character { HasTextNames (record verbose { short_name = Some 0xD800 }) → ⊥ }
@@ -1242,7 +1243,7 @@ fn paragraphs_are_written()
 fn helps_are_written()
     ensures sample { IsHelp
         (record (sample (files ∷ []) true) { options = sample_options ++ asks_for_help ∷ [] }) 80
-        (codes "Usage: example_archive [OPTION]... [FILE]...\nPrints what it has read.\n\n  -v, --verbose         tell more\n  -o, --output=FILE     the archive\n  -b[SUFFIX], --backup[=SUFFIX]\n                        keep an archive that is there, with this suffix\n  -x, --exclude=PATTERN...\n                        leave these out: all words up to the next option\n  -h, --help            print this help and exit\n") }
+        (codes "Usage: example_archive [OPTION]... [FILE]...\nPrints what it has read.\n\n  -v, --verbose         tell more\n  -o, --output=FILE     the archive\n  -b[SUFFIX], --backup[=SUFFIX]\n                        keep an archive that is there, with this suffix\n  -x, --exclude PATTERN...\n                        leave these out: all words up to the next option\n  -h, --help            print this help and exit\n") }
     ensures nothing { IsHelp (record (sample [] true) { options = []; about = [] }) 80
         (codes "Usage: example_archive\n") }
     ensures about_alone { IsHelp (record (sample [] true) { options = [] }) 80

@@ -19,13 +19,13 @@ abbrev long_text : Kind → List ℕ → List ℕ → List ℕ
 long_text flag name value = long_word name
 long_text one name value = long_word_with name value
 long_text optional name value = long_word name ++ in_brackets (equals ∷ value)
-long_text several name value = long_word_with name value ++ codes "..."
+long_text several name value = long_word name ++ (codes " " ++ value ++ codes "...")
 
 after_name : (k : Kind) (name value : List ℕ) → long_text k name value ≡ long_word name ++ after_long k value
 after_name flag name value = sym (append-nil (long_word name))
 after_name one name value = refl
 after_name optional name value = refl
-after_name several name value = append_assoc (long_word name) (equals ∷ value) (codes "...")
+after_name several name value = refl
 
 short_alone : (k : Kind) (c : ℕ) (value : List ℕ) → label_of (Some c) None k value ≡ short_text k c None value
 short_alone flag c value = refl

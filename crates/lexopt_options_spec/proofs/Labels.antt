@@ -8,8 +8,8 @@ use Rattle.std.specs.Char.{IsScalar}
 use Rattle.std.specs.Str.{IsUtf8}
 use Rattle.lexopt_spec.specs.Pieces.{replacement}
 use Rattle.lexopt_spec.specs.UnreadLine.{dash, equals, BeginsWith, IsPlain}
-use Rattle.lexopt_line_spec.specs.Table.{short, long, Item, Kind, flag, one, optional, several, Table, kind}
-use Rattle.lexopt_line_spec.specs.Spelling.{After, nothing, attached, joined, no_value, joined_value, next_word, no_optional, attached_optional, joined_optional, joined_several, several_words, Completes, last_option, IsAfterLast, nothing_more, a_value, IsLong, name_alone, name_and_value, cluster, long_option, no_words, group, Spells}
+use Rattle.lexopt_line_spec.specs.Table.{short, long, Name, Item, many, Kind, flag, one, optional, several, Table, kind}
+use Rattle.lexopt_line_spec.specs.Spelling.{After, nothing, attached, joined, no_value, joined_value, next_word, no_optional, attached_optional, joined_optional, several_words, Completes, last_option, IsAfterLast, nothing_more, a_value, IsLong, name_alone, name_and_value, cluster, long_option, no_words, group, Spells}
 use Rattle.lexopt_line_spec.proofs.SpellerTests.{dash_first, no_equals}
 use Rattle.lexopt_options_spec.specs.Declaration.{Declared, is_long, is_short, table, Reason, is_blank_or_control, blank_or_control_in_name, dash_name, empty_name, equals_in_name, replacement_in_name, bad_placeholder, has, is_placeholder, short_fault, long_fault, placeholder_fault, or_else, fault, faults, is_sound}
 use Rattle.lexopt_options_spec.specs.Help.{LabelForm, short_flag, short_one, short_optional, short_optional_value, short_several, long_flag, long_one, long_optional, long_optional_value, long_several, short_word, HasTextNames}
@@ -94,10 +94,10 @@ short_parsed t e c value others after item scalar other behind done =
     no_words
 
 -- a name, with this after it in its word
-long_parsed : (t : Table) (e : Bool) (name text : List ℕ) (after : After) (item : Item) → IsUtf8 name → ¬ Contains name equals → IsLong text name after
-    → Completes (kind t (long name)) (long name) after [] item [] → Spells t e ((dash ∷ dash ∷ text) ∷ []) (item ∷ [])
-long_parsed t e name text after item utf8 clean behind done =
-    group ((dash ∷ dash ∷ text) ∷ []) [] (item ∷ []) [] (long_option text name name after item [] refl behind clean (utf8, refl) done refl) no_words
+long_parsed : (t : Table) (e : Bool) (name text : List ℕ) (others : List (List ℕ)) (after : After) (item : Item) → IsUtf8 name → ¬ Contains name equals → IsLong text name after
+    → Completes (kind t (long name)) (long name) after others item [] → Spells t e ((dash ∷ dash ∷ text) ∷ others) (item ∷ [])
+long_parsed t e name text others after item utf8 clean behind done =
+    group ((dash ∷ dash ∷ text) ∷ others) [] (item ∷ []) [] (long_option text name name after item others refl behind clean (utf8, refl) done refl) no_words
 
 -- ---- the forms
 
@@ -122,17 +122,22 @@ module _ (options : List Declared) (o : Declared) (e : Bool) (sound : is_sound o
       (subst (λ (x : Kind). Completes x (short c) after others item []) (sym (short_kind c k named is)) done)
 
   -- a long name, and what comes after it
-  long_form : (name : List ℕ) (k : Kind) (text : List ℕ) (after : After) (item : Item) → o.long_name ≡ Some name → o.kind ≡ k → IsLong text name after
-      → Completes k (long name) after [] item [] → Spells (table options) e ((dash ∷ dash ∷ text) ∷ []) (item ∷ [])
-  long_form name k text after item named is behind done =
-      long_parsed (table options) e name text after item (texts.long_text name named) (no_equals_in name (sym (ap long_fault named) ∙ fine.long_fine)) behind
-      (subst (λ (x : Kind). Completes x (long name) after [] item []) (sym (long_kind name k named is)) done)
+  long_form : (name : List ℕ) (k : Kind) (text : List ℕ) (others : List (List ℕ)) (after : After) (item : Item) → o.long_name ≡ Some name → o.kind ≡ k → IsLong text name after
+      → Completes k (long name) after others item [] → Spells (table options) e ((dash ∷ dash ∷ text) ∷ others) (item ∷ [])
+  long_form name k text others after item named is behind done =
+      long_parsed (table options) e name text others after item (texts.long_text name named) (no_equals_in name (sym (ap long_fault named) ∙ fine.long_fine)) behind
+      (subst (λ (x : Kind). Completes x (long name) after others item []) (sym (long_kind name k named is)) done)
 
   alone : (name : List ℕ) → o.long_name ≡ Some name → IsLong name name nothing
   alone name named = name_alone (some_name name (sym (ap long_fault named) ∙ fine.long_fine)) refl refl
 
   attached_here : (k : Kind) → o.kind ≡ k → k ≢ flag → IsAfterLast e o.placeholder (attached o.placeholder)
   attached_here k is some = let v = value k is some in a_value v.some (λ mark. v.no_mark mark.1) refl
+
+  only_value : {name : Name} → o.kind ≡ several → Completes several name nothing (o.placeholder ∷ []) (many name (o.placeholder ∷ [])) []
+  only_value is =
+      several_words (o.placeholder ∷ []) refl
+      (record { words_are = refl; plain = one_plain o.placeholder (inr (inr ((value several is (λ same. cc)).no_option))); longest = λ none. none }) (λ same. cc) refl
 
   pub form_spelled : (shown : List ℕ) (words : List (List ℕ)) (item : Item) → LabelForm o shown words item → Spells (table options) e words (item ∷ [])
   form_spelled shown words item (short_flag c named is) =
@@ -145,15 +150,14 @@ module _ (options : List Declared) (o : Declared) (e : Bool) (sound : is_sound o
       short_form c optional o.placeholder [] (attached o.placeholder) _ named is (attached_here optional is (λ same. cc)) (attached_optional o.placeholder refl refl refl)
   form_spelled shown words item (short_several c named is) =
       short_form c several [] (o.placeholder ∷ []) nothing _ named is (nothing_more refl refl)
-      (several_words (o.placeholder ∷ []) refl
-      (record { words_are = refl; plain = one_plain o.placeholder (inr (inr ((value several is (λ same. cc)).no_option))); longest = λ none. none }) (λ same. cc) refl)
+      (only_value is)
   form_spelled shown words item (long_flag name named is) =
-      long_form name flag name nothing _ named is (alone name named) (no_value refl refl refl)
+      long_form name flag name [] nothing _ named is (alone name named) (no_value refl refl refl)
   form_spelled shown words item (long_one name named is) =
-      long_form name one (name ++ equals ∷ o.placeholder) (joined o.placeholder) _ named is (name_and_value o.placeholder refl refl) (joined_value o.placeholder refl refl refl)
+      long_form name one (name ++ equals ∷ o.placeholder) [] (joined o.placeholder) _ named is (name_and_value o.placeholder refl refl) (joined_value o.placeholder refl refl refl)
   form_spelled shown words item (long_optional name named is) =
-      long_form name optional name nothing _ named is (alone name named) (no_optional refl refl refl)
+      long_form name optional name [] nothing _ named is (alone name named) (no_optional refl refl refl)
   form_spelled shown words item (long_optional_value name named is) =
-      long_form name optional (name ++ equals ∷ o.placeholder) (joined o.placeholder) _ named is (name_and_value o.placeholder refl refl) (joined_optional o.placeholder refl refl refl)
+      long_form name optional (name ++ equals ∷ o.placeholder) [] (joined o.placeholder) _ named is (name_and_value o.placeholder refl refl) (joined_optional o.placeholder refl refl refl)
   form_spelled shown words item (long_several name named is) =
-      long_form name several (name ++ equals ∷ o.placeholder) (joined o.placeholder) _ named is (name_and_value o.placeholder refl refl) (joined_several o.placeholder refl refl refl)
+      long_form name several name (o.placeholder ∷ []) nothing _ named is (alone name named) (only_value is)

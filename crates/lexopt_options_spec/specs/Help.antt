@@ -38,12 +38,12 @@ line_feed = 0x0A
 
 -- ---- the label of an option
 
--- what comes after a long name
+-- what comes after a long name; there is no `=` before several values, since it joins only one
 abbrev pub after_long : Kind → List ℕ → List ℕ
 after_long flag value = []
 after_long one value = codes "=" ++ value
 after_long optional value = codes "[=" ++ value ++ codes "]"
-after_long several value = codes "=" ++ value ++ codes "..."
+after_long several value = codes " " ++ value ++ codes "..."
 
 -- what comes after a character, if there is no long name
 abbrev pub after_short : Kind → List ℕ → List ℕ
@@ -128,10 +128,10 @@ pub data LabelForm (o : Declared) : List ℕ → List (List ℕ) → Item → Ty
   long_optional_value : (name : List ℕ) → o.long_name ≡ Some name → o.kind ≡ optional
       → LabelForm o (long_word name ++ in_brackets (equals ∷ o.placeholder))
       (long_word_with name o.placeholder ∷ []) (option (long name) (Some o.placeholder))
-  -- `--exclude=PATTERN...`
+  -- `--exclude PATTERN...`
   long_several : (name : List ℕ) → o.long_name ≡ Some name → o.kind ≡ several
-      → LabelForm o (long_word_with name o.placeholder ++ codes "...")
-      (long_word_with name o.placeholder ∷ []) (many (long name) (o.placeholder ∷ []))
+      → LabelForm o (long_word name ++ (codes " " ++ o.placeholder ++ codes "..."))
+      (long_word name ∷ o.placeholder ∷ []) (many (long name) (o.placeholder ∷ []))
 
 -- an option of this kind can spell this item by this name, with something after it
 abbrev pub CanSay : Kind → Name → Item → Type 0

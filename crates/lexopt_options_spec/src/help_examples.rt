@@ -16,14 +16,14 @@ pub fn labels_look_so()
     ensures both_optional { label_of (Some 0x62) (Some (codes "backup")) optional (codes "SUFFIX")
         ≡ codes "-b[SUFFIX], --backup[=SUFFIX]" }
     ensures both_several { label_of (Some 0x78) (Some (codes "exclude")) several (codes "PATTERN")
-        ≡ codes "-x, --exclude=PATTERN..." }
+        ≡ codes "-x, --exclude PATTERN..." }
     ensures long { label_of None (Some (codes "quiet")) flag [] ≡ codes "    --quiet" }
     ensures long_one { label_of None (Some (codes "tone")) one (codes "NAME")
         ≡ codes "    --tone=NAME" }
     ensures long_optional { label_of None (Some (codes "color")) optional (codes "WHEN")
         ≡ codes "    --color[=WHEN]" }
     ensures long_several { label_of None (Some (codes "with")) several (codes "PART")
-        ≡ codes "    --with=PART..." }
+        ≡ codes "    --with PART..." }
     ensures short { label_of (Some 0x71) None flag [] ≡ codes "-q" }
     ensures short_one { label_of (Some 0x6E) None one (codes "NUMBER") ≡ codes "-n NUMBER" }
     ensures short_optional { label_of (Some 0x63) None optional (codes "WHEN") ≡ codes "-c[WHEN]" }
@@ -102,7 +102,7 @@ pub fn usage_lines_show_what_is_required()
     ensures flag { option_mark (demanded_option None (Some (codes "yes")) flag [])
         ≡ codes "--yes" }
     ensures several { option_mark (demanded_option (Some 0x78) (Some (codes "exclude")) several
-        (codes "GLOB")) ≡ codes "--exclude=GLOB..." }
+        (codes "GLOB")) ≡ codes "--exclude GLOB..." }
     ensures no_name { mark_of None None flag [] ≡ [] }
     ensures words { usage_words (record {
       program = codes "pack";

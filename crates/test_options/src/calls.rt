@@ -31,7 +31,7 @@ Packs files.
   -b[SUFFIX], --backup[=SUFFIX]
              keep an archive that is
              there, with this suffix
-  -x, --exclude=PATTERN...
+  -x, --exclude PATTERN...
              leave out the files whose
              names match one of these
              patterns of a shell

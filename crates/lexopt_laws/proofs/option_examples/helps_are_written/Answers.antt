@@ -21,7 +21,7 @@ backup_entry = record {
   written = refl;
 }
 
-exclude_entry : IsEntry 80 (label exclude) exclude.help (codes "  -x, --exclude=PATTERN...\n                        leave these out: all words up to the next option\n")
+exclude_entry : IsEntry 80 (label exclude) exclude.help (codes "  -x, --exclude PATTERN...\n                        leave these out: all words up to the next option\n")
 unfolding columns computing
 exclude_entry = record {
   lines = (codes "leave" ∷ codes "these" ∷ codes "out:" ∷ codes "all" ∷ codes "words" ∷ codes "up" ∷ codes "to" ∷ codes "the" ∷ codes "next" ∷ codes "option" ∷ []) ∷ [];
@@ -111,7 +111,7 @@ returns-clause-sample c = record {
   positionals = [];
   options = codes "  -v, --verbose         tell more\n" ∷ codes "  -o, --output=FILE     the archive\n"
       ∷ codes "  -b[SUFFIX], --backup[=SUFFIX]\n                        keep an archive that is there, with this suffix\n"
-      ∷ codes "  -x, --exclude=PATTERN...\n                        leave these out: all words up to the next option\n"
+      ∷ codes "  -x, --exclude PATTERN...\n                        leave these out: all words up to the next option\n"
       ∷ codes "  -h, --help            print this help and exit\n" ∷ [];
   epilogue = [];
   usage_first = sample_usage;
