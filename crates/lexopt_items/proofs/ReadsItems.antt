@@ -97,16 +97,16 @@ joins t u v before after item (Err e) reads h = tt
 -- ---- errors
 
 -- the call for the values of an option is refused
-pub value_refused : (k : copies.Kind) (u v : UnreadLine) (refusal : Refusal) (call : Call) → IsDue (kind_view k) call → Step call u (refusal_reply refusal) v → ValuesEndBy k u refusal
-value_refused k u v refusal call due gives = inr (call, v, due, gives)
+pub value_refused : (k : copies.Kind) (u v : UnreadLine) (refusal : Refusal) (call : Call) → IsDue (kind_view k) call → Step call u (refusal_reply refusal) v → ValuesEndBy k u refusal v
+value_refused k u v refusal call due gives = inr (call, due, gives)
 
 -- so the reading ends in that refusal
-pub option_refused : (t : Table) (u v : UnreadLine) (name : Name) (k : copies.Kind) (refusal : Refusal) → kind_view k ≡ kind t name → Next u (option_reply name) v → ValuesEndBy k v refusal
+pub option_refused : (t : Table) (u v w : UnreadLine) (name : Name) (k : copies.Kind) (refusal : Refusal) → kind_view k ≡ kind t name → Next u (option_reply name) v → ValuesEndBy k v refusal w
     → EndsBy t u refusal
-option_refused t u v name k refusal is step (inl none) = inl none
-option_refused t u v name k (MissingValue o) is step (inr r) = inr (_, reads_refused t u v r.1 name (kind_view k) r.0 (refusal_reply (MissingValue o)) (sym is) r.2 tt step r.3)
-option_refused t u v name k (UnexpectedValue o x) is step (inr r) = inr (_, reads_refused t u v r.1 name (kind_view k) r.0 (refusal_reply (UnexpectedValue o x)) (sym is) r.2 tt step r.3)
-option_refused t u v name k OutOfMemory is step (inr r) = inl refl
+option_refused t u v w name k refusal is step (inl none) = inl none
+option_refused t u v w name k (MissingValue o) is step (inr r) = inr (_, reads_refused t u v w name (kind_view k) r.0 (refusal_reply (MissingValue o)) (sym is) r.1 tt step r.2)
+option_refused t u v w name k (UnexpectedValue o x) is step (inr r) = inr (_, reads_refused t u v w name (kind_view k) r.0 (refusal_reply (UnexpectedValue o x)) (sym is) r.1 tt step r.2)
+option_refused t u v w name k OutOfMemory is step (inr r) = inl refl
 
 -- `next` is refused, so the reading ends in that refusal
 pub next_refused : (t : Table) (u v : UnreadLine) (refusal : Refusal) → Next u (refusal_reply refusal) v → EndsBy t u refusal

@@ -63,11 +63,11 @@ ReadsValues Several u (All values) v = (n : ℕ) × (length values.items < n)
     × Step (calls.values n) u (items values.items) v
 ReadsValues k u values v = ⊥
 
--- the refusal is `OutOfMemory`, or the call for the values of an option of this kind fails with it
-abbrev pub ValuesEndBy : Kind → UnreadLine → Refusal → Type 0
-ValuesEndBy k u refused =
-    (refused ≡ OutOfMemory) ⊎ ((call : calls.Call) × (v : UnreadLine)
-    × IsDue (kind_view k) call × Step call u (refusal_reply refused) v)
+-- the refusal is `OutOfMemory`; or the call for the values of an option of this kind fails with it,
+-- and leaves the line `v`
+abbrev pub ValuesEndBy : Kind → UnreadLine → Refusal → UnreadLine → Type 0
+ValuesEndBy k u refused v = (refused ≡ OutOfMemory)
+    ⊎ ((call : calls.Call) × IsDue (kind_view k) call × Step call u (refusal_reply refused) v)
 
 -- reading the next item gives this one, and leaves the line `v`
 abbrev pub ReadsItem : spec.Table → UnreadLine → spec.Item → UnreadLine → Type 0

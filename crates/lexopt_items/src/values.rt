@@ -47,14 +47,14 @@ impl Values {
 ///
 /// # Errors
 ///
-/// - `MissingValue` if there is none.
+/// - `MissingValue` if there is none. Nothing is consumed.
 /// - `OutOfMemory` if memory runs out. Some of the values may have been taken.
 // It is not inlined, so that the code for other options stays short.
 #[inline(never)]
 pub fn read_several(alloc: Global, parser: &mut Parser) -> Result<Vec<OsString>, Refusal>
     ensures ok { IfOk result (λ values.
         ReadsValues Kind.Several parser.old (Values.All values) parser.new) }
-    ensures err { IfErr result (λ refused. ValuesEndBy Kind.Several parser.old refused) }
+    ensures err { IfErr result (λ refused. ValuesEndBy Kind.Several parser.old refused parser.new) }
 {
     let mut view = parser.begin_values()?;
     Ok(take_values(alloc, &mut view, usize::MAX)?)
@@ -64,12 +64,12 @@ pub fn read_several(alloc: Global, parser: &mut Parser) -> Result<Vec<OsString>,
 ///
 /// # Errors
 ///
-/// - `MissingValue` if an option of one value or of several has none.
+/// - `MissingValue` if an option of one value or of several has none. Nothing is consumed.
 /// - `OutOfMemory` if memory runs out. Some of several values may have been taken.
 #[inline(always)]
 pub fn read_values(alloc: Global, parser: &mut Parser, kind: Kind) -> Result<Values, Refusal>
     ensures ok { IfOk result (λ values. ReadsValues kind parser.old values parser.new) }
-    ensures err { IfErr result (λ refused. ValuesEndBy kind parser.old refused) }
+    ensures err { IfErr result (λ refused. ValuesEndBy kind parser.old refused parser.new) }
 {
     match kind {
         Kind::Flag => Ok(Values::AtMostOne(None)),

@@ -172,16 +172,16 @@ taken_so v w r x is step = subst (λ (y : Result (List ℕ) Refusal). Value v (t
 pub maybe_so : (v w : UnreadLine) (r x : Option (List ℕ)) → r ≡ x → OptionalStep v (steps.maybe r) w → Step calls.optional v (steps.maybe x) w
 maybe_so v w r x is step = inl (subst (λ (y : Option (List ℕ)). OptionalStep v (steps.maybe y) w) is step)
 
-pub value_ends : (v w : UnreadLine) (r : Result (List ℕ) Refusal) (refused : Refusal) → r ≡ Err refused → Value v (take_reply r) w → ValuesEndBy One v refused
-value_ends v w r refused is step = inr (calls.value, w, refl, taken_so v w r (Err refused) is step)
+pub value_ends : (v w : UnreadLine) (r : Result (List ℕ) Refusal) (refused : Refusal) → r ≡ Err refused → Value v (take_reply r) w → ValuesEndBy One v refused w
+value_ends v w r refused is step = inr (calls.value, refl, taken_so v w r (Err refused) is step)
 
-pub lacks_values : (v : UnreadLine) (refused : Refusal) → ValuesEndBy Several v refused → refused ≢ OutOfMemory → (pending v ≡ None) × (¬ IsNormalIn v.ended v.words)
-lacks_values v refused (inl is) lacks = absurd (lacks is)
-lacks_values v (UnexpectedValue o x) (inr ends) lacks = absurd (unexpected_never Several v o x (λ is. cc) (inr ends))
-lacks_values v OutOfMemory (inr ends) lacks = absurd (lacks refl)
-lacks_values v (MissingValue o) (inr ends) lacks =
-    values_lack ends.2.0 v ends.1 (option_map string_bytes o)
-    (enough (ValuesStep ends.2.0) v (steps.missing (option_map string_bytes o)) ends.1 (subst (λ call. Step call v (steps.missing (option_map string_bytes o)) ends.1) ends.2.1 ends.3) (λ is. cc))
+pub lacks_values : (v w : UnreadLine) (refused : Refusal) → ValuesEndBy Several v refused w → refused ≢ OutOfMemory → (pending v ≡ None) × (¬ IsNormalIn v.ended v.words)
+lacks_values v w refused (inl is) lacks = absurd (lacks is)
+lacks_values v w (UnexpectedValue o x) (inr ends) lacks = absurd (unexpected_never Several v w o x (λ is. cc) (inr ends))
+lacks_values v w OutOfMemory (inr ends) lacks = absurd (lacks refl)
+lacks_values v w (MissingValue o) (inr ends) lacks =
+    values_lack ends.1.0 v w (option_map string_bytes o)
+    (enough (ValuesStep ends.1.0) v (steps.missing (option_map string_bytes o)) w (subst (λ call. Step call v (steps.missing (option_map string_bytes o)) w) ends.1.1 ends.2) (λ is. cc))
 
 pub value_lacks : {E : Type 0} (r : Result AfterName E) (x : AfterName) (refused : Refusal) (P : AfterName → Type 0) → IfOk r (λ y. (y ≡ x) × refused ≢ OutOfMemory) → (refused ≢ OutOfMemory → P x) → IfOk r P
 value_lacks (Ok y) x refused P is holds = subst P (sym is.0) (holds is.1)

@@ -36,30 +36,30 @@ never_unexpected Optional call u v o x other due (inl step) = optional_reply u v
 never_unexpected Several call u v o x other due (inl step) =
     several_values due.0 u v (unexpected o x) o x refl (subst (λ c. StepWithMemory c u (unexpected o x) v) due.1 step)
 
-pub unexpected_never : (k : Kind) (u : UnreadLine) (o : String Global) (x : List ℕ) → k ≢ Flag → ValuesEndBy k u (UnexpectedValue o x) → ⊥
-unexpected_never k u o x other (inl is) = let e : UnexpectedValue o x ≡ OutOfMemory = is in cc
-unexpected_never k u o x other (inr r) = never_unexpected k r.0 u r.1 (string_bytes o) x other r.2 r.3
+pub unexpected_never : (k : Kind) (u v : UnreadLine) (o : String Global) (x : List ℕ) → k ≢ Flag → ValuesEndBy k u (UnexpectedValue o x) v → ⊥
+unexpected_never k u v o x other (inl is) = let e : UnexpectedValue o x ≡ OutOfMemory = is in cc
+unexpected_never k u v o x other (inr r) = never_unexpected k r.0 u v (string_bytes o) x other r.1 r.2
 
-unnamed_never : (k : Kind) (u v : UnreadLine) (name : Name) → Next u (option_reply name) v → ValuesEndBy k v (MissingValue None) → ⊥
-unnamed_never k u v name read (inl is) = let e : MissingValue None ≡ OutOfMemory = is in cc
-unnamed_never k u v name read (inr r) =
-    let named = missing_names (kind_view k) r.0 u v r.1 name None read r.2 r.3 in
+unnamed_never : (k : Kind) (u v w : UnreadLine) (name : Name) → Next u (option_reply name) v → ValuesEndBy k v (MissingValue None) w → ⊥
+unnamed_never k u v w name read (inl is) = let e : MissingValue None ≡ OutOfMemory = is in cc
+unnamed_never k u v w name read (inr r) =
+    let named = missing_names (kind_view k) r.0 u v w name None read r.1 r.2 in
     let e : None ≡ Some named.0 = named.1 in cc
 
 -- the option has a name
-pub is_named : (k : Kind) (u v : UnreadLine) (name : Name) (option : Option (String Global)) → Next u (option_reply name) v → ValuesEndBy k v (MissingValue option) → IsSome option
-is_named k u v name None read ends = absurd (unnamed_never k u v name read ends)
-is_named k u v name (Some option) read ends = refl
+pub is_named : (k : Kind) (u v w : UnreadLine) (name : Name) (option : Option (String Global)) → Next u (option_reply name) v → ValuesEndBy k v (MissingValue option) w → IsSome option
+is_named k u v w name None read ends = absurd (unnamed_never k u v w name read ends)
+is_named k u v w name (Some option) read ends = refl
 
 -- a value that is missing
-pub value_missing : (d : Declaration) (k : Kind) (u v : UnreadLine) (name : Name) (index : ℕ) (option : String Global) (mistake : Mistake) → is_sound d.options ≡ true
-    → Next u (option_reply name) v → index_of d.options name ≡ Some index → kind_view k ≡ kind_at d.options index → ValuesEndBy k v (MissingValue (Some option))
+pub value_missing : (d : Declaration) (k : Kind) (u v w : UnreadLine) (name : Name) (index : ℕ) (option : String Global) (mistake : Mistake) → is_sound d.options ≡ true
+    → Next u (option_reply name) v → index_of d.options name ≡ Some index → kind_view k ≡ kind_at d.options index → ValuesEndBy k v (MissingValue (Some option)) w
     → IsMistake d mistake (stops.missing_value index (string_bytes option)) → StopsAtOption d u mistake
-value_missing d k u v name index option mistake sound step found k_is (inl is) told = absurd (let e : MissingValue (Some option) ≡ OutOfMemory = is in cc)
-value_missing d k u v name index option mistake sound step found k_is (inr r) told = record {
+value_missing d k u v w name index option mistake sound step found k_is (inl is) told = absurd (let e : MissingValue (Some option) ≡ OutOfMemory = is in cc)
+value_missing d k u v w name index option mistake sound step found k_is (inr r) told = record {
   why = stops.missing_value index (string_bytes option);
   told = told;
   of_option = tt;
   kept = λ l. refl;
-  stops = λ l line. stops.no_value name index (string_bytes option) r.0 v r.1 step found (subst (λ (x : spec.Kind). IsDue x r.0) (k_is ∙ kind_of_index d.options name index sound found) r.2) r.3;
+  stops = λ l line. stops.no_value name index (string_bytes option) r.0 v w step found (subst (λ (x : spec.Kind). IsDue x r.0) (k_is ∙ kind_of_index d.options name index sound found) r.1) r.2;
 }

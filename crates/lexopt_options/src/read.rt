@@ -95,14 +95,14 @@ fn missing_value<'a, F, V, M, S>(
     option: &Declared<'a, F, V, M, S>,
     refused: Refusal,
 ) -> Result<Mistake<'a>, AllocError>
-    requires { (kind : Kind) × (u v : UnreadLine) × (name : table.Name)
-        × Next u (option_reply name) v × (kind ≢ Kind.Flag) × ValuesEndBy kind v refused }
+    requires { (kind : Kind) × (u v w : UnreadLine) × (name : table.Name)
+        × Next u (option_reply name) v × (kind ≢ Kind.Flag) × ValuesEndBy kind v refused w }
     ensures { IfOk result (λ mistake. (d : Declaration) (index : ℕ) (kind : Kind)
-        (u v : UnreadLine) (name : table.Name) → is_sound d.options ≡ true
+        (u v w : UnreadLine) (name : table.Name) → is_sound d.options ≡ true
         → slice_get d.options index ≡ Some (option_view option.now)
         → Next u (option_reply name) v → index_of d.options name ≡ Some index
         → kind_view kind ≡ kinds.kind_at d.options index
-        → ValuesEndBy kind v refused → StopsAtOption d u mistake) }
+        → ValuesEndBy kind v refused w → StopsAtOption d u mistake) }
 {
     match refused {
         Refusal::MissingValue(name) => Ok(Mistake::MissingValue {

@@ -42,7 +42,7 @@ pub returns-in_err-values-in-Short-clause-err : goal.returns-in_err-values-in-Sh
 returns-in_err-values-in-Short-clause-err c =
     let is : c.in_ok-option.field-0 ≡ (found.Short c.in-Short.option) = cc in
     handed_on c.from_residual-in_err-values-in-Short.result c.in_err-values-in-Short.field-0.0 _ c.from_residual-in_err-values-in-Short.ensures.1
-    (option_refused (table_view c.args.table.now) c.args.parser.now c.advance.new.self (short c.in-Short.option) c.kind_of_short.result _ c.kind_of_short.ensures
+    (option_refused (table_view c.args.table.now) c.args.parser.now c.advance.new.self _ (short c.in-Short.option) c.kind_of_short.result _ c.kind_of_short.ensures
     (gave _ _ _ _ c.in_ok-option.ensures is) c.in_err-values-in-Short.ensures.err)
 
 pub returns-in_err-values-in-Long-clause-err : goal.returns-in_err-values-in-Long-clause-err
@@ -53,5 +53,5 @@ returns-in_err-values-in-Long-clause-err c =
     let copied = subst (λ (n : List ℕ). steps.Next c.args.parser.now (steps.long n) c.advance.new.self) (sym c.in_ok-name-in-Long.ensures.ok) step in
     let known = subst (λ (n : List ℕ). kind_view c.kind_of_long-kind.result ≡ kind (table_view c.args.table.now) (long n)) c.deref.ensures c.kind_of_long-kind.ensures in
     handed_on c.from_residual-in_err-values-in-Long.result c.in_err-values-in-Long.field-0.0 _ c.from_residual-in_err-values-in-Long.ensures.1
-    (option_refused (table_view c.args.table.now) c.args.parser.now c.advance.new.self (long name) c.kind_of_long-kind.result _ known copied
+    (option_refused (table_view c.args.table.now) c.args.parser.now c.advance.new.self _ (long name) c.kind_of_long-kind.result _ known copied
     c.in_err-values-in-Long.ensures.err)

@@ -70,13 +70,13 @@ returns-in-Ok-read_several g c = λ d at. (
 pub returns-then-is_last : goal.returns-then-is_last
 returns-then-is_last g c =
     value_lacks c.lacking-then-is_last.result (after.Lacks (state.First c.args.index)) c.in-Err-read_several.refused _ c.lacking-then-is_last.ensures (λ lacks d at.
-    let both = lacks_values c.args.parser.now c.in-Err-read_several.refused (subst (λ u. ValuesEndBy arity.Several u c.in-Err-read_several.refused) c.is_at_end-is_last.ensures.same c.in-Err-read_several.ensures.err) lacks in
+    let both = lacks_values c.args.parser.now c.read_several.new.parser c.in-Err-read_several.refused (subst (λ u. ValuesEndBy arity.Several u c.in-Err-read_several.refused c.read_several.new.parser) c.is_at_end-is_last.ensures.same c.in-Err-read_several.ensures.err) lacks in
     (refl, sym (kind_here d.options c.args.index c.args.option.now (kind.Values c.in-Values.field-0 c.in-Values.field-1) at c.in-Values.is), both.0, (c.is_at_end-is_last.ensures.at_end both.0).0 c.if-is_last.true))
 
 pub returns-else-is_last : goal.returns-else-is_last
 returns-else-is_last g c =
     value_lacks c.lacking-else-is_last.result after.Missing c.in-Err-read_several.refused _ c.lacking-else-is_last.ensures (λ lacks d at.
-    let both = lacks_values c.args.parser.now c.in-Err-read_several.refused (subst (λ u. ValuesEndBy arity.Several u c.in-Err-read_several.refused) c.is_at_end-is_last.ensures.same c.in-Err-read_several.ensures.err) lacks in (
+    let both = lacks_values c.args.parser.now c.read_several.new.parser c.in-Err-read_several.refused (subst (λ u. ValuesEndBy arity.Several u c.in-Err-read_several.refused c.read_several.new.parser) c.is_at_end-is_last.ensures.same c.in-Err-read_several.ensures.err) lacks in (
       sym (kind_here d.options c.args.index c.args.option.now (kind.Values c.in-Values.field-0 c.in-Values.field-1) at c.in-Values.is),
       both.0,
       λ none. false≢true (sym c.if-is_last.false ∙ (c.is_at_end-is_last.ensures.at_end both.0).1 none),

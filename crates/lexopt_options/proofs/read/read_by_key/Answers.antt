@@ -62,14 +62,14 @@ returns-in-Ok g c = λ o index count u name at step found.
 
 pub missing_value-requires : goal.missing_value-requires
 missing_value-requires g c =
-    (arity.One, c.requires.0, c.args.parser.now, c.requires.1, c.requires.2, (λ is. cc), value_ends c.args.parser.now c.take.new.self c.take.result c.in-Err.refused c.in-Err.is c.take.ensures)
+    (arity.One, c.requires.0, c.args.parser.now, c.take.new.self, c.requires.1, c.requires.2, (λ is. cc), value_ends c.args.parser.now c.take.new.self c.take.result c.in-Err.refused c.in-Err.is c.take.ensures)
 
 pub returns-in-Value : goal.returns-in-Value
 returns-in-Value g c = λ o index count u name at step found.
     let d = declaration_of o in
     let r = c.args.option.now in
     let view = view_there (options_of o) index r at in
-    c.in_ok-missing_value-in-Err.ensures d index arity.One u c.args.parser.now name o.sound view step found (kind_here d.options index r (kind.Value c.in-Value.key c.in-Value.field-1) view c.in-Value.is)
+    c.in_ok-missing_value-in-Err.ensures d index arity.One u c.args.parser.now c.take.new.self name o.sound view step found (kind_here d.options index r (kind.Value c.in-Value.key c.in-Value.field-1) view c.in-Value.is)
     (value_ends c.args.parser.now c.take.new.self c.take.result c.in-Err.refused c.in-Err.is c.take.ensures)
 
 pub returns-then-accepts-2 : goal.returns-then-accepts-2
@@ -138,11 +138,11 @@ returns-in-Ok-read_several g c = λ o index count u name at step found.
     (first_refused d.options index (option_view r) c.in-Ok-read_several.values.items None view all)
 
 pub missing_value-requires-in-Err-read_several : goal.missing_value-requires-in-Err-read_several
-missing_value-requires-in-Err-read_several g c = (arity.Several, c.requires.0, c.args.parser.now, c.requires.1, c.requires.2, (λ is. cc), c.in-Err-read_several.ensures.err)
+missing_value-requires-in-Err-read_several g c = (arity.Several, c.requires.0, c.args.parser.now, c.read_several.new.parser, c.requires.1, c.requires.2, (λ is. cc), c.in-Err-read_several.ensures.err)
 
 pub returns : goal.returns
 returns g c = λ o index count u name at step found.
     let d = declaration_of o in
     let r = c.args.option.now in
     let view = view_there (options_of o) index r at in
-    c.in_ok-missing_value-in-Err-read_several.ensures d index arity.Several u c.args.parser.now name o.sound view step found (kind_here d.options index r (kind.Values c.in-Values.key c.in-Values.field-1) view c.in-Values.is) c.in-Err-read_several.ensures.err
+    c.in_ok-missing_value-in-Err-read_several.ensures d index arity.Several u c.args.parser.now c.read_several.new.parser name o.sound view step found (kind_here d.options index r (kind.Values c.in-Values.key c.in-Values.field-1) view c.in-Values.is) c.in-Err-read_several.ensures.err
