@@ -118,7 +118,7 @@ pub enum Arity<'a> {
 /// Each kind has its own type of keys: `F` for flags, `V` for options of one value, `M` for those
 /// whose value may be left out, `S` for those of several values. Two options may have the same key.
 /// Then a program cannot tell them apart, and a message about a key names the first.
-#[derive(Debug, Clone, Copy)]
+#[derive(Debug)]
 pub enum Kind<'a, F, V = Infallible, M = Infallible, S = Infallible> {
     /// No value: `-v`, `--verbose`.
     Flag(F),
@@ -133,6 +133,27 @@ pub enum Kind<'a, F, V = Infallible, M = Infallible, S = Infallible> {
     /// No value: asks for the version, which is this text.
     Version(&'a str),
 }
+
+impl<F: Copy, V: Copy, M: Copy, S: Copy> Clone for Kind<'_, F, V, M, S> {
+    ghost use Rattle.std.specs.Prelude.{◌≡◌, ⊤};
+
+    ghost is_clone = { λ own copy. copy ≡ own };
+
+    ghost is_infallible = { λ _. ⊤ };
+
+    fn clone(&self) -> Result<Self, AllocError> {
+        Ok(match self {
+            Kind::Flag(key) => Kind::Flag(*key),
+            Kind::Value(key, placeholder) => Kind::Value(*key, placeholder),
+            Kind::Maybe(key, placeholder) => Kind::Maybe(*key, placeholder),
+            Kind::Values(key, placeholder) => Kind::Values(*key, placeholder),
+            Kind::Help => Kind::Help,
+            Kind::Version(text) => Kind::Version(text),
+        })
+    }
+}
+
+impl<F: Copy, V: Copy, M: Copy, S: Copy> Copy for Kind<'_, F, V, M, S> {}
 
 impl<'a, F, V, M, S> Kind<'a, F, V, M, S> {
     ghost use Rattle.std.specs.Prelude.{◌≡◌};
@@ -179,7 +200,7 @@ pub enum Words<'a> {
 }
 
 /// A declared option.
-#[derive(Debug, Clone, Copy)]
+#[derive(Debug)]
 pub struct Declared<'a, F, V = Infallible, M = Infallible, S = Infallible> {
     /// Its names.
     pub names: Names<'a>,
@@ -197,6 +218,27 @@ pub struct Declared<'a, F, V = Infallible, M = Infallible, S = Infallible> {
     /// What its values may be. The help shows a list, even that of a flag, which has no values.
     pub words: Words<'a>,
 }
+
+impl<F: Copy, V: Copy, M: Copy, S: Copy> Clone for Declared<'_, F, V, M, S> {
+    ghost use Rattle.std.specs.Prelude.{◌≡◌, ⊤};
+
+    ghost is_clone = { λ own copy. copy ≡ own };
+
+    ghost is_infallible = { λ _. ⊤ };
+
+    fn clone(&self) -> Result<Self, AllocError> {
+        Ok(Declared {
+            names: self.names,
+            kind: self.kind.clone()?,
+            help: self.help,
+            hidden: self.hidden,
+            required: self.required,
+            words: self.words,
+        })
+    }
+}
+
+impl<F: Copy, V: Copy, M: Copy, S: Copy> Copy for Declared<'_, F, V, M, S> {}
 
 impl<'a, F, V, M, S> Declared<'a, F, V, M, S> {
     ghost use Rattle.std.specs.Prelude.{◌≡◌, codes, false, true};
