@@ -9,7 +9,7 @@
 #![tactic(auto)]
 
 use lexopt_options::{
-    Answer, Declaration, Names, Options, OsString, Parsed, Quoted, USAGE_ERROR, declare, finish,
+    Answer, Declaration, Names, Options, OsString, Parsed, Quoted, declare, finish,
 };
 use std::io;
 use std::process::ExitCode;
@@ -103,10 +103,7 @@ fn run(rt: &HostRuntime) -> io::Result<ExitCode> {
             }
         }
         Answer::Text(text) => rt.print(text)?,
-        Answer::Refused(refused) => {
-            let _ = eprintln!(rt; "{refused}");
-            return Ok(ExitCode::from(USAGE_ERROR));
-        }
+        Answer::Refused(refused) => return Ok(refused.print(rt)),
     }
     Ok(ExitCode::SUCCESS)
 }

@@ -2,7 +2,7 @@
 #![tactic(auto)]
 
 use lexopt_commands::{Call, Command, Commands, Step, columns, declare_commands, finish};
-use lexopt_options::{Answer, Declaration, Names, Options, Parsed, Quoted, USAGE_ERROR, declare};
+use lexopt_options::{Answer, Declaration, Names, Options, Parsed, Quoted, declare};
 use std::convert::Infallible;
 use std::io;
 use std::process::ExitCode;
@@ -64,7 +64,7 @@ fn work<P: Copy>(
     let line = match answer {
         Answer::Parsed(line) => line,
         Answer::Text(text) => return rt.print(text).map(|()| ExitCode::SUCCESS),
-        Answer::Refused(why) => return rt.eprintln(why).map(|()| ExitCode::from(USAGE_ERROR)),
+        Answer::Refused(why) => return Ok(why.print(rt)),
     };
     if let Some(Parsed::Value((), dir)) = general.last() {
         println!(rt; "in {}", Quoted::new(dir.as_bytes()))?;
@@ -81,7 +81,7 @@ fn remote(rt: &HostRuntime, path: &str, call: Call<Infallible, ()>) -> io::Resul
     match commands.answer_call(rt.alloc(), call, columns(rt))? {
         Step::Command((), path, call) => work(rt, Options::new(&REMOTE_ADD), &path, call),
         Step::Text(text) => rt.print(text).map(|()| ExitCode::SUCCESS),
-        Step::Refused(why) => rt.eprintln(why).map(|()| ExitCode::from(USAGE_ERROR)),
+        Step::Refused(why) => Ok(why.print(rt)),
     }
 }
 
@@ -91,7 +91,7 @@ fn run(rt: &HostRuntime) -> io::Result<ExitCode> {
         Step::Command(Task::List, path, call) => work(rt, Options::new(&LIST), &path, call),
         Step::Command(Task::Remote, path, call) => remote(rt, &path, call),
         Step::Text(text) => rt.print(text).map(|()| ExitCode::SUCCESS),
-        Step::Refused(why) => rt.eprintln(why).map(|()| ExitCode::from(USAGE_ERROR)),
+        Step::Refused(why) => Ok(why.print(rt)),
     }
 }
 

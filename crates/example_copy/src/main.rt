@@ -10,7 +10,7 @@
 
 use anyhow::bail;
 use lexopt_options::{
-    Answer, Declaration, Names, Options, OsString, Parsed, USAGE_ERROR, UsageError, declare, finish,
+    Answer, Declaration, Names, Options, OsString, Parsed, UsageError, declare, finish,
 };
 use std::alloc::Global;
 use std::io;
@@ -127,17 +127,10 @@ fn run(rt: &HostRuntime) -> io::Result<ExitCode> {
     match options.from_env(rt)? {
         Answer::Parsed(line) => match settings_of(rt.alloc(), &options, line) {
             Ok(settings) => println!(rt; "{settings:?}")?,
-            Err(error) => {
-                let report = options.report(error);
-                let _ = eprintln!(rt; "{report}");
-                return Ok(ExitCode::from(report.status()));
-            }
+            Err(error) => return Ok(options.report(error).print(rt)),
         },
         Answer::Text(text) => rt.print(text)?,
-        Answer::Refused(refused) => {
-            let _ = eprintln!(rt; "{refused}");
-            return Ok(ExitCode::from(USAGE_ERROR));
-        }
+        Answer::Refused(refused) => return Ok(refused.print(rt)),
     }
     Ok(ExitCode::SUCCESS)
 }

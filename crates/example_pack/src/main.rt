@@ -1,9 +1,7 @@
 //! Prints the options and files that it is called with.
 #![tactic(auto)]
 
-use lexopt_options::{
-    Answer, Declaration, Names, Options, OsString, Parsed, USAGE_ERROR, declare, finish,
-};
+use lexopt_options::{Answer, Declaration, Names, Options, OsString, Parsed, declare, finish};
 use std::io;
 use std::process::ExitCode;
 
@@ -43,7 +41,7 @@ fn run(rt: &HostRuntime) -> io::Result<ExitCode> {
     let line = match Options::new(&DECLARATION).from_env(rt)? {
         Answer::Parsed(line) => line,
         Answer::Text(text) => return rt.print(text).map(|()| ExitCode::SUCCESS),
-        Answer::Refused(why) => return rt.eprintln(why).map(|()| ExitCode::from(USAGE_ERROR)),
+        Answer::Refused(why) => return Ok(why.print(rt)),
     };
     let mut settings = Settings {
         verbose: false,

@@ -24,7 +24,7 @@ pub enum Step<'a, C, F, V = Infallible, M = Infallible, S = Infallible> {
     Command(C, String, Call<F, V, M, S>),
     /// Print this to standard output, and exit: the help, the version, or what a shell asked for.
     Text(String),
-    /// Print this to standard error, and exit with the status [`USAGE_ERROR`](crate::USAGE_ERROR).
+    /// Print this to standard error, and exit: `Refused::print` returns the status.
     Refused(Refused<'a, F, V, Infallible, M, S>),
 }
 
@@ -114,7 +114,7 @@ impl<'a, C: Copy, F: Copy, V: Copy, M: Copy, S: Copy> Commands<'a, C, F, V, M, S
     /// counts: the result is the help of [`Commands::help`], wrapped to `width` columns, or the
     /// text of the version and a line feed. Words that ask for the help by a name such as `help`
     /// get the same help. Otherwise it is what [`Commands::read`] returns, with the path of the
-    /// command, and with a [`Call`] that has the general options and the words after the name.
+    /// command, and with a [`Call`] that has the general options and the words for the command.
     ///
     /// # Errors
     ///

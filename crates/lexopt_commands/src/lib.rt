@@ -15,9 +15,7 @@
 //! ```rust
 //! #![tactic(auto)]
 //!
-//! use lexopt_commands::{
-//!     Call, Command, Commands, Step, USAGE_ERROR, columns, declare_commands, finish,
-//! };
+//! use lexopt_commands::{Call, Command, Commands, Step, columns, declare_commands, finish};
 //! use lexopt_options::{Answer, Declaration, Names, Options, Parsed, declare};
 //! use std::convert::Infallible;
 //! use std::io;
@@ -81,7 +79,7 @@
 //!             Ok(ExitCode::SUCCESS)
 //!         }
 //!         Answer::Text(text) => rt.print(text).map(|()| ExitCode::SUCCESS),
-//!         Answer::Refused(why) => rt.eprintln(why).map(|()| ExitCode::from(USAGE_ERROR)),
+//!         Answer::Refused(why) => Ok(why.print(rt)),
 //!     }
 //! }
 //!
@@ -91,7 +89,7 @@
 //!     match answer {
 //!         Answer::Parsed(_) => rt.println("list").map(|()| ExitCode::SUCCESS),
 //!         Answer::Text(text) => rt.print(text).map(|()| ExitCode::SUCCESS),
-//!         Answer::Refused(why) => rt.eprintln(why).map(|()| ExitCode::from(USAGE_ERROR)),
+//!         Answer::Refused(why) => Ok(why.print(rt)),
 //!     }
 //! }
 //!
@@ -100,7 +98,7 @@
 //!         Step::Command(Task::Add, path, call) => add(rt, &path, call),
 //!         Step::Command(Task::List, path, call) => list(rt, &path, call),
 //!         Step::Text(text) => rt.print(text).map(|()| ExitCode::SUCCESS),
-//!         Step::Refused(why) => rt.eprintln(why).map(|()| ExitCode::from(USAGE_ERROR)),
+//!         Step::Refused(why) => Ok(why.print(rt)),
 //!     }
 //! }
 //!
@@ -164,8 +162,8 @@
 //!   [`CommandError`].
 //! - [`Commands::from_env`] reads the program's own line up to the name of a command, or the
 //!   request of a shell. It returns a [`Step`]. `Step::Command` has the key of the command, its
-//!   path, and its [`Call`]. `Step::Text` has a text to print. `Step::Refused` has a mistake, to be
-//!   printed on standard error before the program exits with [`USAGE_ERROR`], which is 2.
+//!   path, and its [`Call`]. `Step::Text` has a text to print. `Step::Refused` has a mistake, which
+//!   its `print` prints on standard error; that returns the status to exit with, which is 2.
 //! - `Options::with_program` makes the path the name of the program in the options of the command.
 //!   [`Call::answer`] returns what the general options mean, and the answer of the command's
 //!   options, with [`columns`] as the width of the help. So the same code runs the command, prints
@@ -206,4 +204,4 @@ pub use commands::Commands;
 pub use read::CommandLine;
 
 // What else a program that declares commands needs.
-pub use lexopt_options::{BROKEN_PIPE, USAGE_ERROR, columns, finish};
+pub use lexopt_options::{BROKEN_PIPE, columns, finish};

@@ -34,7 +34,7 @@ pub enum Answer<'a, F, V = Infallible, P = Infallible, M = Infallible, S = Infal
     Parsed(Vec<Parsed<F, V, P, M, S>>),
     /// Print this to standard output, and exit: the help, the version, or what a shell asked for.
     Text(String),
-    /// Print this to standard error, and exit with the status [`USAGE_ERROR`](crate::USAGE_ERROR).
+    /// Print this to standard error, and exit: [`Refused::print`] returns the status.
     Refused(Refused<'a, F, V, P, M, S>),
 }
 
@@ -241,11 +241,12 @@ fn width_of(text: &[u8]) -> usize
 // The most bytes of `COLUMNS` that are read. A 64-bit number has at most that many digits.
 const NUMBER_ROOM: usize = 20;
 
-/// Returns the width of the terminal in columns, by the environment variable `COLUMNS`.
+/// Returns the width for a help, in columns, by the environment variable `COLUMNS`. A shell knows
+/// the width of the terminal by this name, but hands it to a program only if the user exports it.
 ///
-/// That is the decimal number in the variable, if it is above 0 and fits into 64 bits. If there is
-/// no such number, or the variable has more than 20 bytes, it is [`WIDTH`](crate::WIDTH). No clause
-/// can state what is in the environment.
+/// The width is the decimal number in the variable, if it is above 0 and fits into 64 bits. If
+/// there is no such number, or the variable has more than 20 bytes, it is
+/// [`WIDTH`](crate::WIDTH). No clause can state what is in the environment.
 pub fn columns<R: Env>(rt: &R) -> usize {
     let mut room = [0u8; NUMBER_ROOM];
     match rt.var("COLUMNS", &mut room) {
@@ -270,8 +271,8 @@ impl<F, V, P, M, S> Options<'_, F, V, P, M, S> {
     /// - Unless nothing was typed, one for each spelling that can come and whose option is not
     ///   hidden: the spelling, a tab, and the help text of the option, with a blank for each
     ///   control character of ASCII.
-    /// - One for each value in a list that can come: after `+`, as in `+tar`, if it is a word of
-    ///   its own; without it after its option, as in `--format=tar`.
+    /// - One for each of [`Completion::values`]: after `+`, as in `+tar`, if it is a word of its
+    ///   own; without it after its option, as in `--format=tar`.
     /// - If a word that is not an option can come: one line by the [`Words`] of the option that it
     ///   is a value of, or of the positionals that it can belong to: `files`, `directories`, or no
     ///   line.
@@ -512,10 +513,7 @@ impl<'a, F: Copy, V: Copy, P: Copy, M: Copy, S: Copy> Options<'a, F, V, P, M, S>
     ///     match Options::new(&DECLARATION).from_env(rt)? {
     ///         Answer::Parsed(line) => println!(rt; "{} options and files", line.len())?,
     ///         Answer::Text(text) => rt.print(text)?,
-    ///         Answer::Refused(refused) => {
-    ///             rt.eprintln(refused)?;
-    ///             return Ok(ExitCode::from(USAGE_ERROR));
-    ///         }
+    ///         Answer::Refused(refused) => return Ok(refused.print(rt)),
     ///     }
     ///     Ok(ExitCode::SUCCESS)
     /// }

@@ -13,7 +13,7 @@
 //! #![tactic(auto)]
 //!
 //! use lexopt_options::{
-//!     Answer, Declaration, Names, Options, OsString, Parsed, USAGE_ERROR, UsageError, declare,
+//!     Answer, Declaration, Names, Options, OsString, Parsed, UsageError, declare,
 //!     finish,
 //! };
 //! use std::alloc::Global;
@@ -90,14 +90,11 @@
 //!     let line = match options.from_env(rt)? {
 //!         Answer::Parsed(line) => line,
 //!         Answer::Text(text) => return rt.print(text).map(|()| ExitCode::SUCCESS),
-//!         Answer::Refused(why) => return rt.eprintln(why).map(|()| ExitCode::from(USAGE_ERROR)),
+//!         Answer::Refused(why) => return Ok(why.print(rt)),
 //!     };
 //!     match settings_of(rt.alloc(), &options, line) {
 //!         Ok(settings) => println!(rt; "{settings:?}").map(|()| ExitCode::SUCCESS),
-//!         Err(error) => {
-//!             let report = options.report(error);
-//!             eprintln!(rt; "{report}").map(|()| ExitCode::from(report.status()))
-//!         }
+//!         Err(error) => Ok(options.report(error).print(rt)),
 //!     }
 //! }
 //!
@@ -169,22 +166,22 @@
 //! - [`Options::from_env`] reads the program's own line, or the request of a shell. It returns an
 //!   [`Answer`]. `Answer::Parsed` has what the line means, in the order in which it was typed.
 //!   `Answer::Text` has the help, the version or what a shell asked for, to be printed.
-//!   `Answer::Refused` has the mistake, to be printed on standard error before the program exits
-//!   with [`USAGE_ERROR`], which is 2. A shell reads what the program prints, so print nothing
-//!   before.
+//!   `Answer::Refused` has the mistake; [`Refused::print`] prints it on standard error, and returns
+//!   the status to exit with, [`USAGE_ERROR`]. A shell reads what the program prints, so print
+//!   nothing before.
 //! - [`Parsed`] is an option or a positional that was read: its key, with its values as
 //!   [`OsString`]s, which may be any bytes. An option that was typed twice is there twice. Print a
 //!   word by [`Visible`], which escapes damage and each character that a terminal may act on, as
 //!   [`Mistake`] does, or by `{word:?}` or [`Quoted`], which escape damage and the control
-//!   characters of ASCII. Compare its bytes: `word.as_bytes() == b"high"`.
+//!   characters of ASCII. Compare it with a text: `word.is("high")`.
 //! - [`Options::parse_value`] converts a value by the type's `FromStr`, and its error names the
 //!   option. [`Options::parse_maybe`] and [`Options::parse_values`] do so for the other kinds of
 //!   options, and [`ValueExt::parse`] and [`ValueExt::string`] for positionals. A value from a list
 //!   of `.one_of(..)` is converted so too, if the program has an enum with `FromStr` for it. The
 //!   error of that `FromStr` is an `anyhow::Error`, or any type that is a `std::error::Error`.
 //! - [`UsageError`] is the error of a function that finds mistakes itself. `?` and
-//!   `UsageError::from` make it. [`Options::report`] makes of it what to print, and
-//!   [`Report::status`] is the status to exit with.
+//!   `UsageError::from` make it. `options.report(error).print(rt)` prints it as a refused line is
+//!   printed, and returns the status to exit with ([`Options::report`]).
 //! - [`Options::answer`] reads words of the program's own, as a test does, and [`Options::read`]
 //!   returns the request for the help, and the mistake, as values. [`Options::help`] and
 //!   [`Options::usage`] return texts; [`columns`] is the width for them.

@@ -1,5 +1,8 @@
 //! The result of reading a line, and a line that was refused. `read.rt` of `lexopt_commands` has
 //! the result for a line with commands.
+ghost use Rattle.std.specs.Prelude.{◌≡◌};
+ghost use Rattle.std.specs.Process.{exit_status};
+
 use crate::mistake::Mistake;
 use crate::parsed::{Asked, Parsed};
 use lexopt_declaration::declaration::Names;
@@ -7,11 +10,13 @@ use lexopt_declaration::message::write_help;
 use std::convert::Infallible;
 use std::fmt;
 use std::fmt::Debug;
+use std::process::ExitCode;
 
 /// The status with which a program exits after it refused its command line.
 pub const USAGE_ERROR: u8 = 2;
 
-/// A line that was refused. `Display` writes what to print, without a line feed at the end:
+/// A line that was refused. [`Refused::print`] prints it. `Display` writes the same, without a line
+/// feed at the end:
 ///
 /// ```text
 /// pack: invalid option '--verbsoe'; did you mean '--verbose'?
@@ -28,6 +33,27 @@ pub struct Refused<'a, F, V = Infallible, P = Infallible, M = Infallible, S = In
     pub before: Vec<Parsed<F, V, P, M, S>>,
     /// The mistake.
     pub mistake: Mistake<'a>,
+}
+
+impl<F, V, P, M, S> Refused<'_, F, V, P, M, S> {
+    /// Prints this and a line feed to standard error, and returns the status to exit with,
+    /// [`USAGE_ERROR`]. The status is the same if it can't be printed.
+    ///
+    /// # Examples
+    ///
+    /// ```rust
+    /// use std::process::ExitCode;
+    ///
+    /// fn refuse(rt: &HostRuntime, refused: &Refused<'_, Flag, Value, Word>) -> ExitCode {
+    ///     refused.print(rt)
+    /// }
+    /// ```
+    pub fn print<R: Eprint>(&self, rt: &R) -> ExitCode
+        ensures { exit_status result ≡ 2 }
+    {
+        let _ = eprintln!(rt; "{self}");
+        ExitCode::from(USAGE_ERROR)
+    }
 }
 
 impl<F, V, P, M, S> fmt::Display for Refused<'_, F, V, P, M, S> {

@@ -1,6 +1,7 @@
 //! Mistakes that a program itself finds in what was read, and what is printed about them.
 ghost use Rattle.std.specs.Prelude.{◌≡◌, position};
 ghost use Rattle.std.specs.Fmt.{WritesOnOk};
+ghost use Rattle.std.specs.Process.{exit_status};
 ghost use Rattle.lexopt_options.specs.Usage as usage;
 ghost use Rattle.lexopt_options.specs.Usage.{for_option, invalid_message, named, value_message};
 ghost use Rattle.lexopt_options.specs.Usage.{what_message, why_message};
@@ -16,6 +17,7 @@ use lexopt_words::os_string::{OsString, Visible};
 use lexopt_words::value_ext::ValueExt;
 use std::alloc::{AllocError, AllocFailed};
 use std::fmt;
+use std::process::ExitCode;
 use std::str::FromStr;
 
 /// A mistake that a program itself finds in what was read, such as a number out of range.
@@ -56,9 +58,9 @@ pub enum UsageError<'a> {
         /// The names of the option that has the value; `None` if no option is named, as for a
         /// positional.
         option: Option<Names<'a>>,
-        /// The reason. For a value that could not be converted it is [`Error::ParsingFailed`],
-        /// whose cause has a message of at most 120 bytes: a longer text is cut, and then ends in
-        /// three dots.
+        /// The reason. For a word that is not UTF-8 it is [`Error::NonUnicodeValue`]. If `FromStr`
+        /// failed, it is [`Error::ParsingFailed`], whose cause has a message of at most 120 bytes:
+        /// a longer text is cut, and then ends in three dots.
         error: Error,
     },
     /// A message. It is kept whole.
@@ -147,8 +149,8 @@ impl<'a> From<&'a str> for UsageError<'a> {
     }
 }
 
-/// What to print about a mistake that the program found. `Display` writes it, without a line feed
-/// at the end.
+/// What to print about a mistake that the program found. [`Report::print`] prints it. `Display`
+/// writes the same, without a line feed at the end.
 #[derive(Debug, Drop)]
 pub struct Report<'a> {
     /// The name of the program.
@@ -172,6 +174,15 @@ impl Report<'_> {
             UsageError::OutOfMemory => 1,
             _ => USAGE_ERROR,
         }
+    }
+
+    /// Prints this and a line feed to standard error, and returns [`Report::status`] to exit with.
+    /// The status is the same if it can't be printed.
+    pub fn print<R: Eprint>(&self, rt: &R) -> ExitCode
+        ensures { exit_status result ≡ report_status self.now.error }
+    {
+        let _ = eprintln!(rt; "{self}");
+        ExitCode::from(self.status())
     }
 }
 
@@ -484,23 +495,19 @@ impl<'a, F, V, P, M, S> Options<'a, F, V, P, M, S> {
     ghost use Rattle.lexopt_declaration.specs.Lookups.{help_names};
     ghost use Rattle.lexopt_options.specs.Declarations.{declaration_of, options_of};
 
-    /// Returns what to print about a mistake that the program found, before it exits with
-    /// [`Report::status`].
+    /// Returns what to print about a mistake that the program found. [`Report::print`] prints it.
     ///
     /// # Examples
     ///
     /// ```rust
-    /// use std::io;
     /// use std::process::ExitCode;
     ///
     /// fn refuse<'a>(
     ///     rt: &HostRuntime,
     ///     options: &Options<'a, Flag, Value, Word>,
     ///     error: UsageError<'a>,
-    /// ) -> io::Result<ExitCode> {
-    ///     let report = options.report(error);
-    ///     eprintln!(rt; "{report}")?;
-    ///     Ok(ExitCode::from(report.status()))
+    /// ) -> ExitCode {
+    ///     options.report(error).print(rt)
     /// }
     /// ```
     ///
