@@ -67,8 +67,8 @@
 //!         Ok(Some(words)) => println!(rt; "{words:?}").map(|()| ExitCode::SUCCESS),
 //!         Ok(None) => rt.println(HELP).map(|()| ExitCode::SUCCESS),
 //!         Err(error) => {
-//!             eprintln!(rt; "forward: {error}")?;
-//!             eprintln!(rt; "Try 'forward --help' for more information.")?;
+//!             let _ = eprintln!(rt; "forward: {error}");
+//!             let _ = eprintln!(rt; "Try 'forward --help' for more information.");
 //!             Ok(ExitCode::from(2))
 //!         }
 //!     }

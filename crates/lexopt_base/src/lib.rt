@@ -57,8 +57,8 @@
 //!         }
 //!         Ok(Request::Help) => rt.println(HELP).map(|()| ExitCode::SUCCESS),
 //!         Err(error) => {
-//!             eprintln!(rt; "hello: {error}")?;
-//!             eprintln!(rt; "Try 'hello --help' for more information.")?;
+//!             let _ = eprintln!(rt; "hello: {error}");
+//!             let _ = eprintln!(rt; "Try 'hello --help' for more information.");
 //!             Ok(ExitCode::from(2))
 //!         }
 //!     }

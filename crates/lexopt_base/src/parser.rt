@@ -703,7 +703,7 @@ impl Parser {
     /// Returns whether the separator `--` has been read. If it has, [`Parser::advance`] reads each
     /// word that is left as a positional.
     ///
-    /// It is for libraries that build on the parser.
+    /// Most programs need not ask.
     ///
     /// # Examples
     ///
@@ -720,8 +720,8 @@ impl Parser {
 
     /// Returns whether a value that `=` joins to the last option is still to be taken.
     ///
-    /// It is for libraries that build on the parser. If it is `true`, that value is the only one
-    /// that [`Parser::values`] would give.
+    /// Most programs need not ask. If it is `true`, that value is the only one that
+    /// [`Parser::values`] would give.
     ///
     /// # Examples
     ///

@@ -27,7 +27,8 @@ AccountsForBytes u calls replies v = (segments : List Segment)
     × (flat u ≡ bytes_of segments ++ flat v)
     × (flat_map bytes_handed_out (map reply_view replies) ≡ shown_of segments)
 
--- if `next` alone reads a cluster, the replies are its lossy characters
+-- if the line begins with a cluster in which no `=` can join a value, and the calls are one `next`
+-- for each piece, the replies are its lossy characters
 abbrev pub ReplaysPieces : UnreadLine → List Call → List Reply → UnreadLine → Type 0
 ReplaysPieces u calls replies v =
     ReadsPieces u (map call_view calls) (map reply_view replies) v

@@ -211,8 +211,9 @@ pub fn replay(alloc: Global, parser: &mut Parser, calls: &[Call]) -> Result<Vec<
         AccountsForBytes parser.old calls.now replies.items parser.new) }
     ensures words_left { (gone : List (List ℕ)) × (parser.old.words ≡ gone ++ parser.new.words) }
 
-    // If `next` alone reads a cluster, the replies are its lossy characters. The replies have no
-    // more options, positionals, values and words than the bound of the line allows.
+    // If the line begins with a cluster in which no `=` can join a value, and the calls are one
+    // `next` for each piece, the replies are its lossy characters. The replies have no more options,
+    // positionals, values and words than the bound of the line allows.
     ensures pieces { IfOk result (λ replies.
         ReplaysPieces parser.old calls.now replies.items parser.new) }
     ensures bounded { IfOk result (λ replies. KeepsBound parser.old replies.items parser.new) }

@@ -1,4 +1,4 @@
-//! What is handed on to a command: the words after its name, or what a shell asks about them.
+//! What is handed on to a command: the words for it, or what a shell asks about them.
 ghost use Rattle.std.specs.Prelude.{◌≡◌, IfOk, string_bytes};
 ghost use Rattle.lexopt_options.specs.Declarations.{declaration_of};
 ghost use Rattle.lexopt_commands.specs.Calls.{IsCallAnswer, path_of};
@@ -8,8 +8,9 @@ use lexopt_options::{Answer, Options, Parsed, Request};
 use std::alloc::{AllocError, Global};
 use std::convert::Infallible;
 
-/// What a command is called with: the general options before its name, and the words after it, or
-/// what a shell asks about these.
+/// What a command is called with: the general options before its name, and the words for it, or what
+/// a shell asks about these. The words for it are those after its name, and `--help` among them if a
+/// name that asks for the help came before it.
 ///
 /// [`Step::Command`](crate::Step::Command) has it. A program hands it on to [`Call::answer`] with
 /// the options of the command, or to [`Commands::answer_call`] if the command has commands of its
@@ -29,8 +30,8 @@ impl<F: Drop, V: Drop, M: Drop, S: Drop> Call<F, V, M, S> {
     /// Returns what the general options mean, and what the program has to do.
     ///
     /// The given options are those of the command. What the program has to do is what
-    /// `Options::answer_request` returns for the words after the command's name, or for what a
-    /// shell asks about them. `width` is the width of the help, in columns. In a call that
+    /// `Options::answer_request` returns for the words for the command, or for what a shell asks
+    /// about them. `width` is the width of the help, in columns. In a call that
     /// [`Commands::answer_request`] or [`Commands::answer_call`] returns for a completion, the list
     /// of general options is empty.
     ///

@@ -36,7 +36,7 @@ pub struct Command<'a, C> {
 pub enum Reason {
     /// It is empty.
     EmptyName,
-    /// It begins with `-`, so it would be read as an option or as the separator.
+    /// It begins with `-`, as an option and the separator do.
     DashName,
     /// It has U+FFFD in it, which represents damage in what was typed.
     ReplacementInName,

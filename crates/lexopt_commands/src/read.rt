@@ -24,7 +24,8 @@ use std::convert::Infallible;
 #[derive(Debug, Drop)]
 pub enum CommandLine<'a, C, F, V = Infallible, M = Infallible, S = Infallible> {
     /// The line has a command: what the general options before it mean, its name, its key, and the
-    /// words after its name.
+    /// words for it. These are the words after its name. If a name that asks for the help came
+    /// before it, `--help` is among them, before the first that begins with a dash, or after all.
     Command(Vec<Parsed<F, V, Infallible, M, S>>, &'a str, C, Vec<OsString>),
     /// The line asks for the help or the version before any mistake.
     Asked(Asked<'a>),

@@ -168,7 +168,7 @@ fn long_name_of<'a, F, V, M, S>(
     }
 }
 
-// Whether the option at this index has this long name.
+// If this holds, the option at this index has this long name.
 fn is_long_at<'a, F, V, M, S>(
     options: &'a [Declared<'a, F, V, M, S>],
     index: usize,
@@ -205,8 +205,8 @@ fn option_by_guess<'a, F, V, M, S>(
     }
 }
 
-/// Returns the index of an option with this name by a table of guesses; `None` if the guess for it
-/// is wrong, or if there is none.
+/// Returns the index of an option with this name by a table of guesses. `None` says nothing of the
+/// options: the guess for the name is wrong, or there is none.
 pub fn guessed_long<'a, F, V, M, S>(
     options: &'a [Declared<'a, F, V, M, S>],
     guesses: &[u16],

@@ -30,8 +30,8 @@ impl<F, V, M, S> Options<'_, F, V, Infallible, M, S> {
     ghost use Rattle.lexopt_options.specs.Begun.{IsLeadingCompletion};
     ghost use Rattle.lexopt_options.specs.Declarations.{declaration_of};
 
-    /// Returns the words after the leading options, if there are any, and otherwise what can come
-    /// where `typed` is typed.
+    /// Returns the words after the leading options, if there are any, and those options are legal
+    /// and ask for nothing. Otherwise it returns what can come where `typed` is typed.
     ///
     /// The words are without the name of the program. This call consumes them, and reads the
     /// options alone, as `Options::read_leading` does. It is for a library that completes what

@@ -56,7 +56,8 @@ pub struct Completion<'a, F, V = Infallible, M = Infallible, S = Infallible> {
     /// The words in lists that can come there and begin with what was typed, in the order of the
     /// lists. First come the values of the option of which a word would be a value there; then the
     /// words of the positionals to which it can belong; then, if the value of an option is typed in
-    /// the word itself, the values in the list of that option, each after what comes before it.
+    /// the word itself, the values in the list of that option, each after what comes before it. That
+    /// an option before them does not accept its value makes no difference.
     pub values: Vec<String>,
     /// What a word is there that begins with what was typed, is longer, and is not an option,
     /// whichever it is; `None` if no such word can come.
@@ -176,7 +177,8 @@ fn begins_with_dash(typed: &OsString) -> bool
     typed.as_bytes().first() == Some(&b'-')
 }
 
-// Whether what was typed begins with a byte other than a dash, so that no spelling begins with it.
+// If this holds, what was typed begins with a byte other than a dash, so that no spelling begins
+// with it.
 fn begins_otherwise(typed: &OsString) -> bool
     ensures { IsTrue result → (typed.now ≢ []) × ¬ BeginsWith dash typed.now }
 {

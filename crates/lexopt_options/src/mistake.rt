@@ -118,8 +118,9 @@ pub enum Mistake<'a> {
     UnknownCommand {
         /// The word.
         word: OsString,
-        /// The words that a command of this name would get: those after it, and then `--help` if a
-        /// name that asks for the help came before it.
+        /// The words that a command of this name would get: those after it. If a name that asks for
+        /// the help came before it, `--help` is among them, before the first that begins with a
+        /// dash, or after all.
         rest: Vec<OsString>,
         /// The names of commands that may have been meant: the nearest alone; or, if none is near,
         /// those that begin with the word, in the order of the declaration, and at most the first

@@ -323,10 +323,10 @@ impl<'a, F, V, P, M, S> Options<'a, F, V, P, M, S> {
     /// Returns the help, wrapped to `width` columns: what a program prints for `--help`.
     ///
     /// It has these parts, in this order: the usage line; what the program does; an entry for each
-    /// positional that has a help text or a list; an entry for each option that is not hidden; and
-    /// the paragraphs of the epilogue. Entries are in the order of the declaration. An empty line
-    /// comes before the first positional, before the first option, and before each paragraph of the
-    /// epilogue. Each line ends with a line feed.
+    /// positional that has a word in its help text, or a list; an entry for each option that is not
+    /// hidden; and the paragraphs of the epilogue that have a word. Entries are in the order of the
+    /// declaration. An empty line comes before the first positional, before the first option, and
+    /// before each paragraph of the epilogue. Each line ends with a line feed.
     ///
     /// The text of an entry begins at column 24, counted from 0, or at a third of `width` if that
     /// is less: on the line of its label if at least two blanks are between them, otherwise on the

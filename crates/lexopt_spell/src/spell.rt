@@ -190,8 +190,7 @@ pub fn spell(
     // The items before the one at fault can be spelled, and together with it they cannot.
     ensures at_fault { IfErr result (λ e. NamesItemAtFault table.now short_equals items.now e) }
 
-    // Items that some words show are spelled, unless memory runs out. So are those that some words
-    // spell.
+    // Items that some words show are spelled, unless memory runs out.
     ensures answered { (words : List (List ℕ)) → LineShows table.now short_equals words items.now
         → IfErr result (λ e. e ≡ SpellError.OutOfMemory) }
     ensures none { IfErr result (λ e. (e ≡ SpellError.OutOfMemory)

@@ -35,7 +35,8 @@ cause_of (NonUnicodeValue value) = None
 cause_of (Custom error) = Some error
 cause_of OutOfMemory = None
 
--- the error is `Custom`, and `anyhow` made its cause from this text alone
+-- the error is `Custom`, and the message of its cause is this text, or a text of at most 120 bytes
+-- that ends in three dots
 abbrev pub IsCustom : List ℕ → Error → Type 0
 IsCustom text (MissingValue option) = ⊥
 IsCustom text (UnexpectedOption option) = ⊥

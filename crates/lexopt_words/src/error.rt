@@ -151,8 +151,8 @@ pub enum Error {
     /// An allocation failed. If `next`, `value`, `values` or `raw_args` of a parser returns it, the
     /// line is unchanged, and the call can be made again. If a constructor of a parser returns it,
     /// the items that it was given are gone; so is the argument of `Arg::unexpected`. If `?` made
-    /// it from the error of `take_values`, or of `collect` over a view, the words that were taken
-    /// from the line are gone.
+    /// it from the error of `push`, the word to push is gone; if from that of `take_values`, or of
+    /// `collect` over a view, the words that were taken from the line are.
     OutOfMemory,
 }
 

@@ -13,9 +13,9 @@ pub const BROKEN_PIPE: u8 = 141;
 /// Returns the status that `main` exits with, by what the work of the program returned.
 ///
 /// It is the status of `Ok`. An error is a failure to print, or memory that ran out. If it is
-/// `ErrorKind::BrokenPipe`, nobody reads what the program prints, as in `hello --help | head -1`:
-/// the status is [`BROKEN_PIPE`], and nothing is printed. After any other error the status is 1,
-/// and the name of the program and the error are printed to standard error.
+/// `ErrorKind::BrokenPipe`, nobody reads what the program prints any longer, as after a pager was
+/// left: the status is [`BROKEN_PIPE`], and nothing is printed. After any other error the status is
+/// 1, and the name of the program and the error are printed to standard error.
 ///
 /// # Examples
 ///

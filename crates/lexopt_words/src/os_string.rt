@@ -1,5 +1,5 @@
-//! Words of a command line, which are lists of bytes and need not be UTF-8. Nothing here changes a
-//! byte. `words.rt` has a call for lists of words.
+//! Words of a command line, which are lists of bytes and need not be UTF-8. No call changes a word
+//! that it keeps or returns as a word. `words.rt` has a call for lists of words.
 ghost use Rattle.std.specs.Prelude.{◌≡◌, ◌↔◌, ◌≤◌, ℕ, List, [], drop, length, string_bytes, IfOk};
 ghost use Rattle.std.specs.Prelude.{IfSome, IsOk, IsSome, IsTrue, IsUtf8, MatchResult, vec_len};
 ghost use Rattle.lexopt_spec.specs.Pieces.{lossy};
