@@ -1,13 +1,11 @@
 //! Tests of declared options: each public call once, what the library reads from an environment,
-//! what `declare!` makes, and the texts of failed conversions; and tests of declared commands.
+//! what `declare!` makes, and the texts of failed conversions.
 #![tactic(auto)]
 
 #[cfg(test)]
 mod archive;
 #[cfg(test)]
 mod calls;
-#[cfg(test)]
-mod commands;
 #[cfg(test)]
 mod declarations;
 #[cfg(test)]

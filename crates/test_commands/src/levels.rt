@@ -1,7 +1,7 @@
 //! A command that has commands of its own: what is read at each level, and the path in what is
 //! printed.
-use crate::commands::calls::text_of_step;
-use crate::commands::git::{Flag, Task, Value, git};
+use crate::calls::text_of_step;
+use crate::git::{Flag, Task, Value, git};
 use lexopt_commands::{Call, Command, Commands, Step, declare_commands};
 use lexopt_options::{Answer, Declaration, Names, Options, Parsed, Request, declare};
 use std::alloc::{AllocError, Global};

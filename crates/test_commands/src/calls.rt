@@ -1,5 +1,5 @@
 //! Each public call of `Commands`, and the words, the variable and `COLUMNS` of an environment.
-use crate::commands::git::{Flag, Task, Value, git};
+use crate::git::{Flag, Task, Value, git};
 use lexopt_commands::{Command, CommandLine, Commands, Step, declare_commands};
 use lexopt_options::{OsString, Request};
 use std::alloc::{AllocError, Global};
