@@ -63,7 +63,7 @@ OF_EMPTY_WORDS = (
     "instructions. The owning iterator of a `Vec` would leave no word, but that of Rattle's std cannot lend the unread words as "
     "one slice."
 )
-OF_ASKING = "[Asking](#whole-processes) for the words costs more than in Rust."
+OF_ASKING = "`Env::arg` copies a word byte by byte ([asking](#whole-processes)), and the port then copies it once more."
 
 
 def repeated(words):
