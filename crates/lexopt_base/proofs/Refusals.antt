@@ -1,5 +1,7 @@
--- Calls that run out of memory, and values that are refused.
+-- Calls that run out of memory, values that are refused, and clauses about errors.
 use Rattle.std.proofs.Common.{◌≡◌, ℕ, Bool, true, false, List, [], ◌∷◌, Option, Some, None, IsSome, string_bytes, refl, sym, ap, subst, ◌∙◌, inl, inr}
+use Rattle.std.specs.Prelude.{Result, Ok, Err, IfErr, OnErr}
+use Rattle.std.specs.Result.{IsErrAnd}
 use Rattle.lexopt_spec.specs.UnreadLine.{UnreadLine, LastOption, no_option, short_option, long_option, no_tail, spelling, pending, IsPlain}
 use Rattle.lexopt_spec.specs.Views.{RawStep, refuses_pending}
 use Rattle.lexopt_base.specs.Found.{found_as}
@@ -100,3 +102,18 @@ named u w text step is = name_in w.last step is
     name_in no_option step is = absurd step
     name_in (short_option c) step is = absurd step
     name_in (long_option name) step is = subst (λ (n : List ℕ). Next u (long n) w) (sym (is name refl)) step
+
+-- ---- results
+
+-- a clause about an error implies a weaker one
+pub err_says : {X Y : Type 0} (r : Result X Y) (P Q : Y → Type 0) → IsErrAnd r P → ((y : Y) → P y → Q y) → IfErr r Q
+err_says (Ok x) P Q h more = tt
+err_says (Err y) P Q h more = more y h
+
+-- an error that `?` returns
+pub handed_on : {X Y : Type 0} (r : Result X Y) (e : Y) (Q : Y → Type 0) → IsErrAnd r (λ y. y ≡ e) → Q e → IfErr r Q
+handed_on r e Q is h = err_says r (λ y. y ≡ e) Q is (λ y same. subst Q (sym same) h)
+
+-- a clause about errors holds for the error that was found
+pub err_told : {X Y : Type 0} (r : Result X Y) (e : Y) (P : Y → Type 0) → r ≡ Err e → OnErr r (IfErr r P) → P e
+err_told r e P is told = subst (λ q. OnErr q (IfErr q P)) is told

@@ -112,9 +112,9 @@
 //!   program prints.
 //! - `parser.set_short_equals(false)` makes `-d=` mean that `-d` has the value `=`.
 //!   [`Parser::bin_name`] is the name that the program was called by.
-//! - [`Parser::advance`], [`Parser::take`], [`Parser::begin_values`], [`Parser::is_past_separator`]
-//!   and [`Parser::has_joined_value`] are for libraries that build on the parser. The first three
-//!   return the errors of [`refusal`].
+//! - [`Parser::advance`], [`Parser::take`], [`Parser::begin_values`], [`values::read_several`],
+//!   [`Parser::is_past_separator`] and [`Parser::has_joined_value`] are for libraries that build on
+//!   the parser. The first four return the errors of [`refusal`].
 //!
 //! A call that allocates returns an error if memory runs out; no call aborts.
 //!

@@ -1,7 +1,12 @@
-//! `values`: a view of several values of one option, which takes each from the parser when it is
-//! asked for. `values.rt` of `lexopt_items` reads the values of an option by its kind.
-ghost use Rattle.std.specs.Prelude.{◌≡◌, ◌≤◌, ℕ, List, IfOk};
+//! Several values of one option: `values` and `begin_values` lend a view, which takes each value
+//! from the parser when it is asked for, and `take_values` and `read_several` take values into a
+//! list. `values.rt` of `lexopt_items` reads the values of an option by its kind.
+ghost use Rattle.std.specs.Prelude.{◌≡◌, ◌≤◌, ◌<◌, ◌⊎◌, ℕ, List, IfErr, IfOk, length};
+ghost use Rattle.lexopt_spec.specs.Runs as calls;
+ghost use Rattle.lexopt_spec.specs.Runs.{Step};
+ghost use Rattle.lexopt_spec.specs.Steps as steps;
 ghost use Rattle.lexopt_spec.specs.Views.{ValueItems};
+ghost use Rattle.lexopt_base.specs.Refusals.{refusal_reply};
 ghost use Rattle.lexopt_base.specs.Stages.{stage_of};
 
 use crate::parser::Parser;
@@ -192,4 +197,33 @@ pub fn take_values(
         }
     }
     Ok(items)
+}
+
+/// Takes all values of the last option into a list.
+///
+/// It is for libraries that build on the parser. A program calls `collect` on [`Parser::values`].
+///
+/// # Errors
+///
+/// - `MissingValue` if there is no value. Nothing is consumed.
+/// - `OutOfMemory` if memory runs out. Some of the values may have been taken.
+///
+/// # Examples
+///
+/// ```rust
+/// use lexopt_base::values::read_several;
+///
+/// // After `advance` returned `Found::Short('a')` for `-a b c -d`, this takes `b` and `c`.
+/// let values = read_several(alloc, &mut parser)?;
+/// ```
+// It is not inlined, so that the code for other options stays short.
+#[inline(never)]
+pub fn read_several(alloc: Global, parser: &mut Parser) -> Result<Vec<OsString>, Refusal>
+    ensures ok { IfOk result (λ values. (n : ℕ) × (length values.items < n)
+        × Step (calls.values n) parser.old (steps.items values.items) parser.new) }
+    ensures err { IfErr result (λ refused. (refused ≡ Refusal.OutOfMemory)
+        ⊎ ((n : ℕ) × Step (calls.values n) parser.old (refusal_reply refused) parser.new)) }
+{
+    let mut view = parser.begin_values()?;
+    Ok(take_values(alloc, &mut view, usize::MAX)?)
 }

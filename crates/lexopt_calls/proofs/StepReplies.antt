@@ -1,5 +1,5 @@
 -- Replies that steps give, as results of calls.
-use Rattle.std.proofs.Common.{◌≡◌, Option, Some, None, IsSome, Result, Ok, Err, IfOk, IfErr, OnErr, refl, sym, subst, ◌∙◌}
+use Rattle.std.proofs.Common.{◌≡◌, Option, Some, None, IsSome, Result, Ok, Err, IfOk, refl, sym, subst, ◌∙◌}
 use Rattle.std.specs.declared.alloc.AllocError.{AllocError}
 use Rattle.lexopt_spec.specs.UnreadLine.{UnreadLine}
 use Rattle.lexopt_spec.specs.Steps.{Reply}
@@ -22,10 +22,6 @@ some_reply Answers u (Some r) after h = refl
 pub refusal_given : (Answers : UnreadLine → Reply → UnreadLine → Type 0) (u : UnreadLine) (reply : Option Reply) (r : Reply) (after : UnreadLine)
     → RepliesWith Answers u reply after → reply ≡ Some r → Answers u r after
 refusal_given Answers u reply r after h is = subst (λ (o : Option Reply). RepliesWith Answers u o after) is h
-
--- a clause about errors holds for the error that was found
-pub err_told : {X Y : Type 0} (r : Result X Y) (e : Y) (P : Y → Type 0) → r ≡ Err e → OnErr r (IfErr r P) → P e
-err_told r e P is told = subst (λ q. OnErr q (IfErr q P)) is told
 
 -- the copy of a reply is equal to it
 pub copied : (copy : Result replies.Reply AllocError) (reply : Option Reply) (r : Reply) → reply ≡ Some r → IfOk copy (λ x. reply ≡ Some (reply_view x))

@@ -1,6 +1,5 @@
 //! What is handed on to a command: the words for it, or what a shell asks about them.
 ghost use Rattle.std.specs.Prelude.{◌≡◌, IfOk, string_bytes};
-ghost use Rattle.lexopt_options.specs.Declarations.{declaration_of};
 ghost use Rattle.lexopt_commands.specs.Calls.{IsCallAnswer, path_of};
 
 use crate::commands::Commands;
@@ -30,8 +29,8 @@ impl<F: Drop, V: Drop, M: Drop, S: Drop> Call<F, V, M, S> {
     /// Returns what the general options mean, and what the program has to do.
     ///
     /// The given options are those of the command. What the program has to do is what
-    /// `Options::answer_request` returns for the words for the command, or for what a shell asks
-    /// about them. `width` is the width of the help, in columns. In a call that
+    /// `Options::answer_request` returns for the words that the command gets, or for what a shell
+    /// asks about them. `width` is the width of the help, in columns. In a call that
     /// [`Commands::answer_request`] or [`Commands::answer_call`] returns for a completion, the list
     /// of general options is empty.
     ///

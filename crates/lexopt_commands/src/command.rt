@@ -1,5 +1,5 @@
 //! What a program declares of its commands, and which names can be declared.
-ghost use Rattle.std.specs.Prelude.{◌≡◌, ◌==◌, [], None, map, option_map, take};
+ghost use Rattle.std.specs.Prelude.{◌≡◌, ◌==◌, [], None, option_map};
 ghost use Rattle.std.specs.List.{list_any};
 ghost use Rattle.std.specs.Cmp.Lexicographic.{pointwise};
 ghost use Rattle.lexopt_options_spec.specs.Declaration as spec;
@@ -7,10 +7,11 @@ ghost use Rattle.lexopt_options_spec.specs.Declarable.{has_replacement};
 ghost use Rattle.lexopt_commands.specs.Names.{fault, first_fault, name_fault, names_of};
 
 use lexopt_declaration::message::Escaped;
+use std::alloc::AllocError;
 use std::fmt;
 
 /// What the name of a command does.
-#[derive(Debug, Clone, Copy, PartialEq, Eq)]
+#[derive(Debug, PartialEq, Eq)]
 pub enum Runs<C> {
     /// Runs a command: the program's own key for it.
     Command(C),
@@ -18,8 +19,25 @@ pub enum Runs<C> {
     Help,
 }
 
+impl<C: Copy> Clone for Runs<C> {
+    ghost use Rattle.std.specs.Prelude.{◌≡◌, ⊤};
+
+    ghost is_clone = { λ own copy. copy ≡ own };
+
+    ghost is_infallible = { λ _. ⊤ };
+
+    fn clone(&self) -> Result<Self, AllocError> {
+        Ok(match self {
+            Runs::Command(key) => Runs::Command(*key),
+            Runs::Help => Runs::Help,
+        })
+    }
+}
+
+impl<C: Copy> Copy for Runs<C> {}
+
 /// A declared command.
-#[derive(Debug, Clone, Copy)]
+#[derive(Debug)]
 pub struct Command<'a, C> {
     /// Its name.
     pub name: &'a str,
@@ -29,6 +47,24 @@ pub struct Command<'a, C> {
     /// What its name does.
     pub runs: Runs<C>,
 }
+
+impl<C: Copy> Clone for Command<'_, C> {
+    ghost use Rattle.std.specs.Prelude.{◌≡◌, ⊤};
+
+    ghost is_clone = { λ own copy. copy ≡ own };
+
+    ghost is_infallible = { λ _. ⊤ };
+
+    fn clone(&self) -> Result<Self, AllocError> {
+        Ok(Command {
+            name: self.name,
+            help: self.help,
+            runs: self.runs.clone()?,
+        })
+    }
+}
+
+impl<C: Copy> Copy for Command<'_, C> {}
 
 /// Why a name cannot be declared. `Display` writes it, such as `its name is empty`. The `Reason` of
 /// `lexopt_options` is about options.
@@ -47,12 +83,12 @@ pub enum Reason {
     SameName,
 }
 
-/// A command that cannot be declared. `Display` writes it on one line:
+/// A command that cannot be declared. `Display` and `Debug` write it on one line:
 ///
 /// ```text
 /// command '-a': its name begins with '-'
 /// ```
-#[derive(Debug, Clone, Copy, PartialEq, Eq)]
+#[derive(Clone, Copy, PartialEq, Eq)]
 pub struct CommandError<'a> {
     /// Its name.
     pub name: &'a str,
@@ -89,6 +125,17 @@ impl fmt::Display for CommandError<'_> {
         let name = Escaped(self.name);
         let reason = self.reason;
         write!(f, "command '{name}': {reason}")
+    }
+}
+
+impl fmt::Debug for CommandError<'_> {
+    ghost use Rattle.std.specs.Prelude.{Some};
+    ghost use Rattle.lexopt_commands.specs.Messages.{command_error_text};
+
+    ghost debug_output = { λ error. Some (command_error_text error) };
+
+    fn fmt<W: fmt::Write>(&self, f: &mut fmt::Formatter<W>) -> fmt::Result {
+        fmt::Display::fmt(self, f)
     }
 }
 

@@ -530,7 +530,7 @@ pub enum Count {
 }
 
 /// A declared positional.
-#[derive(Debug, Clone, Copy)]
+#[derive(Debug)]
 pub struct Positional<'a, P> {
     /// The program's own key for it.
     pub key: P,
@@ -544,6 +544,26 @@ pub struct Positional<'a, P> {
     /// What its words may be. The help shows a list.
     pub words: Words<'a>,
 }
+
+impl<P: Copy> Clone for Positional<'_, P> {
+    ghost use Rattle.std.specs.Prelude.{◌≡◌, ⊤};
+
+    ghost is_clone = { λ own copy. copy ≡ own };
+
+    ghost is_infallible = { λ _. ⊤ };
+
+    fn clone(&self) -> Result<Self, AllocError> {
+        Ok(Positional {
+            key: self.key,
+            placeholder: self.placeholder,
+            count: self.count,
+            help: self.help,
+            words: self.words,
+        })
+    }
+}
+
+impl<P: Copy> Copy for Positional<'_, P> {}
 
 impl<'a, P> Positional<'a, P> {
     ghost use Rattle.std.specs.Prelude.{◌≡◌};
@@ -723,13 +743,13 @@ pub enum Reason {
     SameName,
 }
 
-/// What cannot be declared. `Display` writes it on one line:
+/// What cannot be declared. `Display` and `Debug` write it on one line:
 ///
 /// ```text
 /// option '--output': an option before it has one of its names
 /// positional argument FILE: one before it may occur more than once too
 /// ```
-#[derive(Debug, Clone, Copy, PartialEq, Eq)]
+#[derive(Clone, Copy, PartialEq, Eq)]
 pub enum DeclarationError<'a> {
     /// An option that cannot be declared after those before it.
     Option {
@@ -795,6 +815,17 @@ impl fmt::Display for DeclarationError<'_> {
                 write!(f, "positional argument {placeholder}: {}", Reason::BadList)
             }
         }
+    }
+}
+
+impl fmt::Debug for DeclarationError<'_> {
+    ghost use Rattle.std.specs.Prelude.{Some};
+    ghost use Rattle.lexopt_declaration.specs.Texts.{declaration_error_text};
+
+    ghost debug_output = { λ error. Some (declaration_error_text error) };
+
+    fn fmt<W: fmt::Write>(&self, f: &mut fmt::Formatter<W>) -> fmt::Result {
+        fmt::Display::fmt(self, f)
     }
 }
 

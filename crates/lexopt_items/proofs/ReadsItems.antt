@@ -1,33 +1,29 @@
 -- The turns of the loop of `read_items`.
-use Rattle.std.proofs.Common.{◌≡◌, ◌<◌, ℕ, Bool, true, false, List, [], ◌∷◌, Some, None, refl, sym, ap, subst, ◌∙◌, arith, inl, inr, ⊎_elim, true≢false, ◌++◌, ◌⊎◌, append-nil, string_bytes}
+use Rattle.std.proofs.Common.{◌≡◌, ℕ, Bool, true, false, List, [], ◌∷◌, Some, None, option_map, refl, sym, ap, subst, ◌∙◌, inl, inr, ⊎_elim, true≢false, ◌++◌, ◌⊎◌, append-nil, string_bytes}
 use Rattle.lexopt_spec.specs.UnreadLine.{UnreadLine}
 use Rattle.lexopt_spec.specs.Steps as steps
-use Rattle.lexopt_spec.specs.Steps.{Reply, Next}
+use Rattle.lexopt_spec.specs.Steps.{Next}
 use Rattle.lexopt_spec.specs.Runs as calls
 use Rattle.lexopt_spec.specs.Runs.{Call, Step}
-use Rattle.lexopt_line_spec.specs.Table.{Name, short, long, Item, option, positional, Kind, flag, one, optional, several, holds_in, kind, Table}
+use Rattle.lexopt_line_spec.specs.Table.{Name, Item, option, positional, Kind, flag, one, optional, several, holds_in, kind, Table}
 use Rattle.lexopt_line_spec.specs.Readings.{option_reply, IsDue, IsReading, MeansUpTo, start}
-use Rattle.lexopt_line_spec.specs.Bound.{bound}
-use Rattle.lexopt_line_spec.proofs.Bounds.{given_falls, step_bound}
+use Rattle.lexopt_line_spec.specs.Values.{Values, at_most_one, all, ReadsValues, ValuesEndBy, item_with}
+use Rattle.lexopt_line_spec.proofs.Bounds.{positional_falls, values_fall}
 use Rattle.lexopt_line_spec.proofs.ReadingSteps.{says_flag, says_value, says_optional, says_several, says_positional, reads_last, reads_refused}
 use Rattle.lexopt_line_spec.specs.Spelling.{Shows}
 use Rattle.lexopt_line_spec.proofs.WholeLines.{shown_said}
 use Rattle.lexopt_base.specs.Replies.{RepliesWith, error_reply}
 use Rattle.lexopt_words.specs.declared.error.Error.{Error}
 use Rattle.lexopt_words.specs.declared.error.Error.TheVariants as error
-use Rattle.std.specs.Prelude.{Result, Ok, Err, IfErr, IfOk, OnErr}
+use Rattle.std.specs.Prelude.{Result, Ok, Err, IfOk}
 use Rattle.std.specs.Result.{IsErrAnd}
 use Rattle.lexopt_base.specs.declared.parser.Found.{Found}
 use Rattle.lexopt_base.specs.Found.{found_as}
-use Rattle.lexopt_items.specs.declared.kinds.Kind as copies
-use Rattle.lexopt_items.specs.declared.kinds.Kind.TheVariants.{Flag, One, Optional, Several}
 use Rattle.lexopt_base.specs.declared.refusal.Refusal.{Refusal}
 use Rattle.lexopt_base.specs.declared.refusal.Refusal.TheVariants.{MissingValue, UnexpectedValue, OutOfMemory}
 use Rattle.lexopt_base.specs.Refusals.{IsErrorOf, refusal_reply}
 use Rattle.lexopt_base.proofs.Refusals.{error_said}
-use Rattle.lexopt_items.specs.declared.values.Values.{Values}
-use Rattle.lexopt_items.specs.declared.values.Values.TheVariants.{AtMostOne, All}
-use Rattle.lexopt_items.specs.Items.{ReadsItem, ReadsInto, ReadsValues, ValuesEndBy, EndsBy, FailsWith, item_with, kind_view}
+use Rattle.lexopt_items.specs.Items.{ReadsItem, ReadsInto, EndsBy, FailsWith}
 
 -- ---- the kind of an option
 
@@ -55,37 +51,21 @@ is_flag t name a b c = rw (a, b, c) refl
 
 -- ---- one item
 
-option_falls : (u v : UnreadLine) (name : Name) → Next u (option_reply name) v → bound v < bound u
-option_falls u v (short c) step = given_falls u v (steps.short c) (λ is. let e : steps.short c ≡ steps.end = is in cc) (λ is. let e : steps.short c ≡ steps.no_memory = is in cc) step
-option_falls u v (long n) step = given_falls u v (steps.long n) (λ is. let e : steps.long n ≡ steps.end = is in cc) (λ is. let e : steps.long n ≡ steps.no_memory = is in cc) step
-
 pub positional_read : (t : Table) (u v : UnreadLine) (word : List ℕ) → Next u (steps.positional word) v → ReadsItem t u (positional word) v
-positional_read t u v word step = (
-  says_positional t u v word step,
-  given_falls u v (steps.positional word) (λ is. let e : steps.positional word ≡ steps.end = is in cc) (λ is. let e : steps.positional word ≡ steps.no_memory = is in cc) step,
-)
-
--- no call after an option raises the bound of the line, so an option and its values lower it
-falls_on : (u v w : UnreadLine) (name : Name) (call : Call) (reply : Reply) → Next u (option_reply name) v → Step call v reply w → bound w < bound u
-falls_on u v w name call reply step takes =
-    let first = option_falls u v name step in
-    let then = step_bound call v reply w takes in
-    omega arith
+positional_read t u v word step = (says_positional t u v word step, positional_falls u v word step)
 
 -- an option and its values are one item
-pub option_read : (t : Table) (u v w : UnreadLine) (name : Name) (k : copies.Kind) (values : Values) → kind_view k ≡ kind t name → Next u (option_reply name) v
-    → ReadsValues k v values w → ReadsItem t u (item_with name values) w
-option_read t u v w name Flag (AtMostOne None) is step reads = (
-  subst (MeansUpTo t u (option name None ∷ [])) (sym reads) (says_flag t u v name (sym is) step),
-  subst (λ (x : UnreadLine). bound x < bound u) (sym reads) (option_falls u v name step),
-)
-option_read t u v w name One (AtMostOne (Some word)) is step reads =
-    (says_value t u v w name word (sym is) step reads, falls_on u v w name calls.value (steps.taken word) step reads)
-option_read t u v w name Optional (AtMostOne value) is step reads =
-    (says_optional t u v w name value (sym is) step reads, falls_on u v w name calls.optional (steps.maybe value) step reads)
-option_read t u v w name Several (All values) is step reads =
-    (says_several t u v w name reads.0 values.items (sym is) reads.1 step reads.2, falls_on u v w name (calls.values reads.0) (steps.items values.items) step reads.2)
-option_read t u v w name k values is step reads = absurd reads
+option_says : (t : Table) (u v w : UnreadLine) (name : Name) (k : Kind) (values : Values) → k ≡ kind t name → Next u (option_reply name) v → ReadsValues k v values w
+    → MeansUpTo t u (item_with name values ∷ []) w
+option_says t u v w name flag (at_most_one None) is step reads = subst (MeansUpTo t u (option name None ∷ [])) (sym reads) (says_flag t u v name (sym is) step)
+option_says t u v w name one (at_most_one (Some word)) is step reads = says_value t u v w name word (sym is) step reads
+option_says t u v w name optional (at_most_one value) is step reads = says_optional t u v w name value (sym is) step reads
+option_says t u v w name several (all values) is step reads = says_several t u v w name reads.0 values (sym is) reads.1 step reads.2
+option_says t u v w name k values is step reads = absurd reads
+
+pub option_read : (t : Table) (u v w : UnreadLine) (name : Name) (k : Kind) (values : Values) → k ≡ kind t name → Next u (option_reply name) v → ReadsValues k v values w
+    → ReadsItem t u (item_with name values) w
+option_read t u v w name k values is step reads = (option_says t u v w name k values is step reads, values_fall u v w name k values step reads)
 
 -- an item that was read is appended to the list
 pub joins : (t : Table) (u v : UnreadLine) (before after : List Item) (item : Item) (r : Result Bool Refusal) → ReadsItem t u item v
@@ -97,16 +77,21 @@ joins t u v before after item (Err e) reads h = tt
 -- ---- errors
 
 -- the call for the values of an option is refused
-pub value_refused : (k : copies.Kind) (u v : UnreadLine) (refusal : Refusal) (call : Call) → IsDue (kind_view k) call → Step call u (refusal_reply refusal) v → ValuesEndBy k u refusal v
+pub value_refused : (k : Kind) (u v : UnreadLine) (refusal : Refusal) (call : Call) → IsDue k call → Step call u (refusal_reply refusal) v → ValuesEndBy k u (refusal_reply refusal) v
 value_refused k u v refusal call due gives = inr (call, due, gives)
 
+pub several_refused : (u v : UnreadLine) (refusal : Refusal) → (refusal ≡ OutOfMemory) ⊎ ((n : ℕ) × Step (calls.values n) u (refusal_reply refusal) v) → ValuesEndBy several u (refusal_reply refusal) v
+several_refused u v refusal (inl is) = inl (ap refusal_reply is)
+several_refused u v refusal (inr r) = inr (calls.values r.0, (r.0, refl), r.1)
+
 -- so the reading ends in that refusal
-pub option_refused : (t : Table) (u v w : UnreadLine) (name : Name) (k : copies.Kind) (refusal : Refusal) → kind_view k ≡ kind t name → Next u (option_reply name) v → ValuesEndBy k v refusal w
+pub option_refused : (t : Table) (u v w : UnreadLine) (name : Name) (k : Kind) (refusal : Refusal) → k ≡ kind t name → Next u (option_reply name) v → ValuesEndBy k v (refusal_reply refusal) w
     → EndsBy t u refusal
-option_refused t u v w name k refusal is step (inl none) = inl none
-option_refused t u v w name k (MissingValue o) is step (inr r) = inr (_, reads_refused t u v w name (kind_view k) r.0 (refusal_reply (MissingValue o)) (sym is) r.1 tt step r.2)
-option_refused t u v w name k (UnexpectedValue o x) is step (inr r) = inr (_, reads_refused t u v w name (kind_view k) r.0 (refusal_reply (UnexpectedValue o x)) (sym is) r.1 tt step r.2)
-option_refused t u v w name k OutOfMemory is step (inr r) = inl refl
+option_refused t u v w name k OutOfMemory is step ends = inl refl
+option_refused t u v w name k (MissingValue o) is step (inl none) = absurd (let e : steps.missing (option_map string_bytes o) ≡ steps.no_memory = none in cc)
+option_refused t u v w name k (UnexpectedValue o x) is step (inl none) = absurd (let e : steps.unexpected (string_bytes o) x ≡ steps.no_memory = none in cc)
+option_refused t u v w name k (MissingValue o) is step (inr r) = inr (_, reads_refused t u v w name k r.0 (refusal_reply (MissingValue o)) (sym is) r.1 tt step r.2)
+option_refused t u v w name k (UnexpectedValue o x) is step (inr r) = inr (_, reads_refused t u v w name k r.0 (refusal_reply (UnexpectedValue o x)) (sym is) r.1 tt step r.2)
 
 -- `next` is refused, so the reading ends in that refusal
 pub next_refused : (t : Table) (u v : UnreadLine) (refusal : Refusal) → Next u (refusal_reply refusal) v → EndsBy t u refusal
@@ -138,22 +123,9 @@ end_read t u v w before after true is says reads = absurd (true≢false is)
 pub gave : (u v : UnreadLine) (found x : Found) → RepliesWith Next u (found_as v.last found) v → found ≡ x → RepliesWith Next u (found_as v.last x) v
 gave u v found x h is = subst (λ (f : Found). RepliesWith Next u (found_as v.last f) v) is h
 
--- a clause about an error implies a weaker one
-pub err_says : {X Y : Type 0} (r : Result X Y) (P Q : Y → Type 0) → IsErrAnd r P → ((y : Y) → P y → Q y) → IfErr r Q
-err_says (Ok x) P Q h more = tt
-err_says (Err y) P Q h more = more y h
-
 pub err_alone : {X Y : Type 0} (r : Result X Y) (P : Y → Type 0) (Q : X → Type 0) → IsErrAnd r P → IfOk r Q
 err_alone (Ok x) P Q h = absurd h
 err_alone (Err y) P Q h = tt
-
--- an error that `?` returns
-pub handed_on : {X Y : Type 0} (r : Result X Y) (e : Y) (Q : Y → Type 0) → IsErrAnd r (λ y. y ≡ e) → Q e → IfErr r Q
-handed_on r e Q is h = err_says r (λ y. y ≡ e) Q is (λ y same. subst Q (sym same) h)
-
--- a clause about errors holds for the error that was found
-pub err_told : {X Y : Type 0} (r : Result X Y) (e : Y) (P : Y → Type 0) → r ≡ Err e → OnErr r (IfErr r P) → P e
-err_told r e P is told = subst (λ q. OnErr q (IfErr q P)) is told
 
 -- ---- whole readings, and what words show
 

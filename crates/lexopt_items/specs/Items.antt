@@ -1,15 +1,14 @@
--- Tables, items and errors as contracts see them, and what one turn of the loop of `read_items`
--- does.
-use Rattle.std.specs.Prelude.{◌≡◌, ◌<◌, ◌⊎◌, ℕ, Bool, true, false, List, [], ◌∷◌, ◌++◌, length, map}
-use Rattle.std.specs.Prelude.{Some, None}
+-- Tables, items, kinds, values and errors as contracts see them, and what one turn of the loop of
+-- `read_items` does.
+use Rattle.std.specs.Prelude.{◌≡◌, ◌<◌, ◌⊎◌, Bool, true, false, List, [], ◌∷◌, ◌++◌, Some, map}
 use Rattle.std.specs.Prelude.{string_bytes}
 use Rattle.lexopt_spec.specs.UnreadLine.{UnreadLine}
-use Rattle.lexopt_spec.specs.Steps.{Reply, Next, Value, end, taken, maybe, items}
-use Rattle.lexopt_spec.specs.Runs as calls
-use Rattle.lexopt_spec.specs.Runs.{Step}
+use Rattle.lexopt_spec.specs.Steps.{Reply, Next, end}
 use Rattle.lexopt_line_spec.specs.Table as spec
 use Rattle.lexopt_line_spec.specs.Table.{short, long, option, many, positional}
-use Rattle.lexopt_line_spec.specs.Readings.{IsDue, IsReading, MeansUpTo}
+use Rattle.lexopt_line_spec.specs.Readings.{IsReading, MeansUpTo}
+use Rattle.lexopt_line_spec.specs.Values as values
+use Rattle.lexopt_line_spec.specs.Values.{at_most_one, all}
 use Rattle.lexopt_line_spec.specs.Bound.{bound}
 use Rattle.lexopt_base.specs.Replies.{error_reply}
 use Rattle.lexopt_words.specs.declared.error.Error.{Error}
@@ -49,25 +48,9 @@ kind_view One = spec.one
 kind_view Optional = spec.optional
 kind_view Several = spec.several
 
--- the item of an option with these values
-abbrev pub item_with : spec.Name → Values → spec.Item
-item_with name (AtMostOne value) = option name value
-item_with name (All values) = many name values.items
-
--- an option of this kind has these values, and reading them leaves the line `v`
-abbrev pub ReadsValues : Kind → UnreadLine → Values → UnreadLine → Type 0
-ReadsValues Flag u (AtMostOne None) v = v ≡ u
-ReadsValues One u (AtMostOne (Some word)) v = Value u (taken word) v
-ReadsValues Optional u (AtMostOne value) v = Step calls.optional u (maybe value) v
-ReadsValues Several u (All values) v = (n : ℕ) × (length values.items < n)
-    × Step (calls.values n) u (items values.items) v
-ReadsValues k u values v = ⊥
-
--- the refusal is `OutOfMemory`; or the call for the values of an option of this kind fails with it,
--- and leaves the line `v`
-abbrev pub ValuesEndBy : Kind → UnreadLine → Refusal → UnreadLine → Type 0
-ValuesEndBy k u refused v = (refused ≡ OutOfMemory)
-    ⊎ ((call : calls.Call) × IsDue (kind_view k) call × Step call u (refusal_reply refused) v)
+abbrev pub values_view : Values → values.Values
+values_view (AtMostOne value) = at_most_one value
+values_view (All given) = all given.items
 
 -- reading the next item gives this one, and leaves the line `v`
 abbrev pub ReadsItem : spec.Table → UnreadLine → spec.Item → UnreadLine → Type 0

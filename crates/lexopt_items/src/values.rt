@@ -1,14 +1,17 @@
 //! Reads the values of the option just read, by its kind. The crate `lexopt` does not re-export
-//! this. `values.rt` of `lexopt_base` has the view that takes several values one after another.
+//! this. `values.rt` of `lexopt_base` reads several values; `Values` of `lexopt_line_spec` is the
+//! same for contracts.
 ghost use Rattle.std.specs.Prelude.{◌≡◌, IfErr, IfOk, string_bytes};
 ghost use Rattle.lexopt_line_spec.specs.Table as spec;
-ghost use Rattle.lexopt_items.specs.Items.{ReadsValues, ValuesEndBy, item_view, item_with};
+ghost use Rattle.lexopt_line_spec.specs.Values.{ReadsValues, ValuesEndBy, item_with};
+ghost use Rattle.lexopt_base.specs.Refusals.{refusal_reply};
+ghost use Rattle.lexopt_items.specs.Items.{item_view, kind_view, values_view};
 
 use crate::items::Item;
 use crate::kinds::Kind;
 use lexopt_base::parser::Parser;
 use lexopt_base::refusal::Refusal;
-use lexopt_base::values::take_values;
+use lexopt_base::values::read_several;
 use lexopt_words::os_string::OsString;
 use std::alloc::Global;
 
@@ -24,7 +27,7 @@ pub enum Values {
 impl Values {
     /// Returns the item of a short option with these values.
     pub fn of_short(self, option: char) -> Item
-        ensures { item_view result ≡ item_with (spec.short option) self }
+        ensures { item_view result ≡ item_with (spec.short option) (values_view self) }
     {
         match self {
             Values::AtMostOne(value) => Item::Short(option, value),
@@ -34,30 +37,13 @@ impl Values {
 
     /// Returns the item of a long option with these values.
     pub fn of_long(self, name: String) -> Item
-        ensures { item_view result ≡ item_with (spec.long (string_bytes name)) self }
+        ensures { item_view result ≡ item_with (spec.long (string_bytes name)) (values_view self) }
     {
         match self {
             Values::AtMostOne(value) => Item::Long(name, value),
             Values::All(values) => Item::LongMany(name, values),
         }
     }
-}
-
-/// Takes all values of the last option, which has several.
-///
-/// # Errors
-///
-/// - `MissingValue` if there is none. Nothing is consumed.
-/// - `OutOfMemory` if memory runs out. Some of the values may have been taken.
-// It is not inlined, so that the code for other options stays short.
-#[inline(never)]
-pub fn read_several(alloc: Global, parser: &mut Parser) -> Result<Vec<OsString>, Refusal>
-    ensures ok { IfOk result (λ values.
-        ReadsValues Kind.Several parser.old (Values.All values) parser.new) }
-    ensures err { IfErr result (λ refused. ValuesEndBy Kind.Several parser.old refused parser.new) }
-{
-    let mut view = parser.begin_values()?;
-    Ok(take_values(alloc, &mut view, usize::MAX)?)
 }
 
 /// Takes the values of the last option, which is of this kind.
@@ -68,8 +54,10 @@ pub fn read_several(alloc: Global, parser: &mut Parser) -> Result<Vec<OsString>,
 /// - `OutOfMemory` if memory runs out. Some of several values may have been taken.
 #[inline(always)]
 pub fn read_values(alloc: Global, parser: &mut Parser, kind: Kind) -> Result<Values, Refusal>
-    ensures ok { IfOk result (λ values. ReadsValues kind parser.old values parser.new) }
-    ensures err { IfErr result (λ refused. ValuesEndBy kind parser.old refused parser.new) }
+    ensures ok { IfOk result (λ values.
+        ReadsValues (kind_view kind) parser.old (values_view values) parser.new) }
+    ensures err { IfErr result (λ refused.
+        ValuesEndBy (kind_view kind) parser.old (refusal_reply refused) parser.new) }
 {
     match kind {
         Kind::Flag => Ok(Values::AtMostOne(None)),

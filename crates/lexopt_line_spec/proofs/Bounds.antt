@@ -6,11 +6,16 @@ use Rattle.bstr.specs.Utf8.{decoded}
 use Rattle.bstr.proofs.lemmas.PieceLemmas.{piece-bounds}
 use Rattle.lexopt_spec.specs.Pieces.{after_first_piece}
 use Rattle.lexopt_spec.specs.UnreadLine.{dash, Tail, no_tail, joined, rest, rest_of, UnreadLine, pending_in}
+use Rattle.lexopt_spec.specs.Steps as steps
 use Rattle.lexopt_spec.specs.Steps.{Reply, end, no_memory, Next, IsLongOption, ReadsPositional, no_word_left, word_left, ReadsWord, no_word, reads_separator, reads_long, reads_cluster, reads_positional, NextStep, joined_value, equals_value, next_in_cluster, after_separator, next_word}
 use Rattle.lexopt_spec.specs.Views.{TakesWords, TakesWordIf}
 use Rattle.lexopt_spec.specs.Account.{handed_items}
 use Rattle.lexopt_line_spec.specs.Bound.{word_bound, tail_bound, bound, reply_count, replies_count, next_replies}
 use Rattle.lexopt_spec.specs.Runs.{Call, next, value, optional, values, raw, try_raw, raw_if, set_short_equals, StepWithMemory, Step, Run}
+use Rattle.lexopt_line_spec.specs.Table.{Name, short, long, Kind}
+use Rattle.lexopt_line_spec.specs.Table as spec
+use Rattle.lexopt_line_spec.specs.Readings.{option_reply}
+use Rattle.lexopt_line_spec.specs.Values.{Values, at_most_one, all, ReadsValues}
 use Rattle.lexopt_line_spec.proofs.HandedItems.{HandedItems, hands_nothing, hands_words, hands_pending, value_hands, optional_hands, values_hands, raw_hands, words_hands, word_if_hands, try_raw_hands}
 use Rattle.lexopt_line_spec.proofs.NoOption.{NoOption, no_option_count, value_no_option, optional_no_option, values_no_option, words_no_option, word_if_no_option, raw_no_option, try_raw_no_option}
 
@@ -207,3 +212,24 @@ given_falls u v r some found (inl step) = ⊎_elim
     (λ (one : reply_count r ≡ 1). let most = step_bound next u r v (inl step) in omega arith)
     (next_counts u r v step)
 given_falls u v r some found (inr refused) = absurd (found refused.reply_is)
+
+pub positional_falls : (u v : UnreadLine) (word : List ℕ) → Next u (steps.positional word) v → bound v < bound u
+positional_falls u v word step = given_falls u v (steps.positional word) (λ is. let e : steps.positional word ≡ end = is in cc) (λ is. let e : steps.positional word ≡ no_memory = is in cc) step
+
+option_falls : (u v : UnreadLine) (name : Name) → Next u (option_reply name) v → bound v < bound u
+option_falls u v (short c) step = given_falls u v (steps.short c) (λ is. let e : steps.short c ≡ end = is in cc) (λ is. let e : steps.short c ≡ no_memory = is in cc) step
+option_falls u v (long n) step = given_falls u v (steps.long n) (λ is. let e : steps.long n ≡ end = is in cc) (λ is. let e : steps.long n ≡ no_memory = is in cc) step
+
+-- no call after an option raises the bound of the line, so an option and its values lower it
+falls_on : (u v w : UnreadLine) (name : Name) (call : Call) (reply : Reply) → Next u (option_reply name) v → Step call v reply w → bound w < bound u
+falls_on u v w name call reply step takes =
+    let first = option_falls u v name step in
+    let then = step_bound call v reply w takes in
+    omega arith
+
+pub values_fall : (u v w : UnreadLine) (name : Name) (k : Kind) (given : Values) → Next u (option_reply name) v → ReadsValues k v given w → bound w < bound u
+values_fall u v w name spec.flag (at_most_one None) step reads = subst (λ (x : UnreadLine). bound x < bound u) (sym reads) (option_falls u v name step)
+values_fall u v w name spec.one (at_most_one (Some word)) step reads = falls_on u v w name value (steps.taken word) step reads
+values_fall u v w name spec.optional (at_most_one given) step reads = falls_on u v w name optional (steps.maybe given) step reads
+values_fall u v w name spec.several (all given) step reads = falls_on u v w name (values reads.0) (steps.items given) step reads.2
+values_fall u v w name k given step reads = absurd reads

@@ -15,22 +15,18 @@ use Rattle.lexopt_spec.specs.Runs as calls
 use Rattle.lexopt_spec.specs.Runs.{Step}
 use Rattle.lexopt_line_spec.specs.Bound.{bound}
 use Rattle.lexopt_line_spec.specs.Table as table
-use Rattle.lexopt_line_spec.specs.Table.{Name}
+use Rattle.lexopt_line_spec.specs.Table.{Kind, Name}
+use Rattle.lexopt_line_spec.specs.Values.{Values, at_most_one, all, ReadsValues, ValuesEndBy, item_with}
 use Rattle.lexopt_line_spec.specs.Readings.{option_reply, start}
 use Rattle.lexopt_line_spec.proofs.RunAccounts.{step_line}
 use Rattle.lexopt_base.specs.Pending.{is_joined}
-use Rattle.lexopt_base.specs.Refusals.{take_reply}
+use Rattle.lexopt_base.specs.Refusals.{refusal_reply, take_reply}
 use Rattle.lexopt_base.specs.declared.refusal.Refusal.{Refusal}
 use Rattle.lexopt_base.specs.declared.refusal.Refusal.TheVariants.{MissingValue, OutOfMemory, UnexpectedValue}
 use Rattle.lexopt_declaration.specs.Models.{kind_of, option_view, words_view}
 use Rattle.lexopt_declaration.specs.declared.declaration.Declared as rust
 use Rattle.lexopt_declaration.specs.declared.declaration.Kind as rust_kind
 use Rattle.lexopt_declaration.specs.declared.declaration.Kind.TheVariants as rust_kinds
-use Rattle.lexopt_items.specs.Items.{ReadsValues, ValuesEndBy, item_with, kind_view}
-use Rattle.lexopt_items.specs.declared.kinds.Kind.{Kind}
-use Rattle.lexopt_items.specs.declared.kinds.Kind.TheVariants.{Flag, One, Optional, Several}
-use Rattle.lexopt_items.specs.declared.values.Values.{Values}
-use Rattle.lexopt_items.specs.declared.values.Values.TheVariants.{AtMostOne, All}
 use Rattle.lexopt_options_spec.specs.Asking.{asked_by, first_asked, or_asked}
 use Rattle.lexopt_options_spec.specs.Completion.{CanBeTaken, HasRole, IsJoined, IsOpen, IsOption, JoinsValue, value_of}
 use Rattle.lexopt_options_spec.specs.Declaration as declared
@@ -172,13 +168,17 @@ taken_so v w r x is step = subst (λ (y : Result (List ℕ) Refusal). Value v (t
 pub maybe_so : (v w : UnreadLine) (r x : Option (List ℕ)) → r ≡ x → OptionalStep v (steps.maybe r) w → Step calls.optional v (steps.maybe x) w
 maybe_so v w r x is step = inl (subst (λ (y : Option (List ℕ)). OptionalStep v (steps.maybe y) w) is step)
 
-pub value_ends : (v w : UnreadLine) (r : Result (List ℕ) Refusal) (refused : Refusal) → r ≡ Err refused → Value v (take_reply r) w → ValuesEndBy One v refused w
+pub value_ends : (v w : UnreadLine) (r : Result (List ℕ) Refusal) (refused : Refusal) → r ≡ Err refused → Value v (take_reply r) w → ValuesEndBy table.one v (refusal_reply refused) w
 value_ends v w r refused is step = inr (calls.value, refl, taken_so v w r (Err refused) is step)
 
-pub lacks_values : (v w : UnreadLine) (refused : Refusal) → ValuesEndBy Several v refused w → refused ≢ OutOfMemory → (pending v ≡ None) × (¬ IsNormalIn v.ended v.words)
-lacks_values v w refused (inl is) lacks = absurd (lacks is)
-lacks_values v w (UnexpectedValue o x) (inr ends) lacks = absurd (unexpected_never Several v w o x (λ is. cc) (inr ends))
-lacks_values v w OutOfMemory (inr ends) lacks = absurd (lacks refl)
+pub several_ends : (v w : UnreadLine) (refused : Refusal) → (refused ≡ OutOfMemory) ⊎ ((n : ℕ) × Step (calls.values n) v (refusal_reply refused) w) → ValuesEndBy table.several v (refusal_reply refused) w
+several_ends v w refused (inl is) = inl (ap refusal_reply is)
+several_ends v w refused (inr r) = inr (calls.values r.0, (r.0, refl), r.1)
+
+pub lacks_values : (v w : UnreadLine) (refused : Refusal) → ValuesEndBy table.several v (refusal_reply refused) w → refused ≢ OutOfMemory → (pending v ≡ None) × (¬ IsNormalIn v.ended v.words)
+lacks_values v w (UnexpectedValue o x) ends lacks = absurd (unexpected_never table.several v w o x (λ is. cc) ends)
+lacks_values v w OutOfMemory ends lacks = absurd (lacks refl)
+lacks_values v w (MissingValue o) (inl is) lacks = absurd (let e : steps.missing (option_map string_bytes o) ≡ steps.no_memory = is in cc)
 lacks_values v w (MissingValue o) (inr ends) lacks =
     values_lack ends.1.0 v w (option_map string_bytes o)
     (enough (ValuesStep ends.1.0) v (steps.missing (option_map string_bytes o)) w (subst (λ call. Step call v (steps.missing (option_map string_bytes o)) w) ends.1.1 ends.2) (λ is. cc))
@@ -189,13 +189,13 @@ value_lacks (Err e) x refused P is holds = tt
 
 -- ---- an option with its values
 
-pub grows : (t : table.Table) (u v w : UnreadLine) (name : Name) (k : Kind) (values : Values) → IsLine u → kind_view k ≡ table.kind t name → Next u (option_reply name) v → ReadsValues k v values w
+pub grows : (t : table.Table) (u v w : UnreadLine) (name : Name) (k : Kind) (values : Values) → IsLine u → k ≡ table.kind t name → Next u (option_reply name) v → ReadsValues k v values w
     → Grows t u (item_with name values) (can_go_on k (pending v)) w
-grows t u v w name Flag (AtMostOne None) line is next reads = subst (Grows t u (table.option name None) false) (sym reads) (grows_flag t u v name (sym is) next)
-grows t u v w name One (AtMostOne (Some word)) line is next reads = grows_one t u v w name word (sym is) next reads
-grows t u v w name Optional (AtMostOne value) line is next reads = grows_optional t u v w name value (sym is) next reads
-grows t u v w name Several (All values) line is next reads =
-    grows_several t u v w name reads.0 values.items (is_joined (pending v)) line (sym is) next reads.1 reads.2 (λ value has. ap is_joined has) (λ joins. value_in (pending v) joins)
+grows t u v w name table.flag (at_most_one None) line is next reads = subst (Grows t u (table.option name None) false) (sym reads) (grows_flag t u v name (sym is) next)
+grows t u v w name table.one (at_most_one (Some word)) line is next reads = grows_one t u v w name word (sym is) next reads
+grows t u v w name table.optional (at_most_one value) line is next reads = grows_optional t u v w name value (sym is) next reads
+grows t u v w name table.several (all values) line is next reads =
+    grows_several t u v w name reads.0 values (is_joined (pending v)) line (sym is) next reads.1 reads.2 (λ value has. ap is_joined has) (λ joins. value_in (pending v) joins)
   where
     value_in : (found : Option (List ℕ × Bool)) → is_joined found ≡ true → (value : List ℕ) × (found ≡ Some (value, true))
     value_in None joins = absurd (false≢true joins)
@@ -207,8 +207,8 @@ same_within : (l : List Parsed) (s : Parsed) (limit : Option ℕ) → counts s �
 same_within l s limit none within = subst (λ n. IsWithin n limit) (let e = count_append l (s ∷ []) in omega (arith, e, none)) within
 
 no_words : (index : ℕ) (values : Values) → positional_words (parsed_with index values ∷ []) ≡ []
-no_words index (AtMostOne value) = refl
-no_words index (All values) = refl
+no_words index (at_most_one value) = refl
+no_words index (all values) = refl
 
 append_none : (l : List (List ℕ)) → l ++ [] ≡ l
 append_none [] = refl
@@ -216,7 +216,7 @@ append_none (x ∷ l) = ap (λ m. x ∷ m) (append_none l)
 
 -- several values are a list
 abbrev IsKindOf : Kind → Values → Type 0
-IsKindOf Several (AtMostOne value) = ⊥
+IsKindOf table.several (at_most_one value) = ⊥
 IsKindOf k values = Unit {0}
 
 reached_by : (d : Declaration) (s u w : UnreadLine) (l : List Parsed) (going : Option ℕ) (name : Name) (index : ℕ) (k : Kind) (values : Values) (pending_is : Option (List ℕ × Bool)) (goes_on : Bool) → Reached d s l going u → index_of d.options name ≡ Some index
@@ -224,23 +224,23 @@ reached_by : (d : Declaration) (s u w : UnreadLine) (l : List Parsed) (going : O
     → Reached d s (l ++ parsed_with index values ∷ []) (index_if goes_on index) w
 reached_by d s u w l going name index k values pending_is false at found grow line within fits is =
     closed_reached d s u w l going (item_with name values) (parsed_with index values) at (subst (λ b. Grows (declared.table d.options) u (item_with name values) b w) is grow) (option_item d name index values found) line within
-reached_by d s u w l going name index Several (All values) pending_is true at found grow line within fits is =
-    open_reached d s u w l going name index values.items at (subst (λ b. Grows (declared.table d.options) u (table.many name values.items) b w) is grow) found line within
-reached_by d s u w l going name index Several (AtMostOne value) pending_is true at found grow line within fits is = absurd fits
-reached_by d s u w l going name index Flag values pending_is true at found grow line within fits is = absurd (false≢true is)
-reached_by d s u w l going name index One values pending_is true at found grow line within fits is = absurd (false≢true is)
-reached_by d s u w l going name index Optional values pending_is true at found grow line within fits is = absurd (false≢true is)
+reached_by d s u w l going name index table.several (all values) pending_is true at found grow line within fits is =
+    open_reached d s u w l going name index values at (subst (λ b. Grows (declared.table d.options) u (table.many name values) b w) is grow) found line within
+reached_by d s u w l going name index table.several (at_most_one value) pending_is true at found grow line within fits is = absurd fits
+reached_by d s u w l going name index table.flag values pending_is true at found grow line within fits is = absurd (false≢true is)
+reached_by d s u w l going name index table.one values pending_is true at found grow line within fits is = absurd (false≢true is)
+reached_by d s u w l going name index table.optional values pending_is true at found grow line within fits is = absurd (false≢true is)
 
 fits : (k : Kind) (v w : UnreadLine) (values : Values) → ReadsValues k v values w → IsKindOf k values
-fits Several v w (AtMostOne value) reads = reads
-fits Several v w (All values) reads = tt
-fits Flag v w values reads = tt
-fits One v w values reads = tt
-fits Optional v w values reads = tt
+fits table.several v w (at_most_one value) reads = reads
+fits table.several v w (all values) reads = tt
+fits table.flag v w values reads = tt
+fits table.one v w values reads = tt
+fits table.optional v w values reads = tt
 
 asked_here : (options : List declared.Declared) (index : ℕ) (values : Values) (o : declared.Declared) → slice_get options index ≡ Some o → asked_by options (parsed_with index values) ≡ o.asks
-asked_here options index (AtMostOne value) o at = ap (option_and_then (λ p. p.asks)) at
-asked_here options index (All values) o at = ap (option_and_then (λ p. p.asks)) at
+asked_here options index (at_most_one value) o at = ap (option_and_then (λ p. p.asks)) at
+asked_here options index (all values) o at = ap (option_and_then (λ p. p.asks)) at
 
 -- one more option
 pub has_option : (d : Declaration) (s u v w : UnreadLine) (words : List (List ℕ)) (seen seen_now : List ℕ) (accepted own unasked nothing : Bool) (last : Option (ℕ × List ℕ)) (going : Option ℕ) (value : Option (List ℕ)) (goes_on : Bool) (name : Name) (index : ℕ) (o : declared.Declared)
@@ -266,7 +266,7 @@ has_option d s u v w words seen seen_now accepted own unasked nothing last going
     read : ReadsParsed d (positional_count has.l) u parsed w
     read = option_parsed d (positional_count has.l) u v w name k index values sound k_is next found reads
 
-    kind_so : kind_view k ≡ table.kind (declared.table d.options) name
+    kind_so : k ≡ table.kind (declared.table d.options) name
     kind_so = k_is ∙ kind_of_index d.options name index sound found
 
     line : IsLine w

@@ -12,7 +12,6 @@ pub mod Beginnings
 pub mod Completing
 pub mod Seen
 pub mod Accepted
-pub mod Tables
 pub mod Given
 pub mod KeysGiven
 pub mod Guessed

@@ -16,11 +16,9 @@ use Rattle.lexopt_options_spec.specs.Legal.{IsWithin, are_accepted, counts, is_r
 use Rattle.lexopt_options_spec.specs.Stops.{Stops}
 use Rattle.lexopt_declaration.specs.declared.declaration.Declared.{Declared}
 use Rattle.lexopt_line_spec.specs.Readings.{option_reply, start}
-use Rattle.lexopt_line_spec.specs.Table.{Name}
+use Rattle.lexopt_line_spec.specs.Table.{Kind, Name}
+use Rattle.lexopt_line_spec.specs.Values.{Values, at_most_one, all, ReadsValues}
 use Rattle.lexopt_options_spec.specs.Declaration.{has, index_of}
-use Rattle.lexopt_items.specs.Items.{ReadsValues, kind_view}
-use Rattle.lexopt_items.specs.declared.kinds.Kind.{Kind}
-use Rattle.lexopt_items.specs.declared.values.Values.{Values}
 use Rattle.lexopt_options.specs.declared.options.Options.{Options}
 use Rattle.lexopt_options.specs.declared.parsed.Parsed.{Parsed}
 use Rattle.lexopt_options.specs.declared.parsed.ByKey.{ByKey}
@@ -37,7 +35,6 @@ use Rattle.lexopt_options_spec.specs.Completion.{IsOption}
 use Rattle.lexopt_options_spec.specs.Declaration as spec
 use Rattle.std.proofs.lemmas.Bool.{eq-eqb, eqb-true, false≢true}
 use Rattle.std.proofs.Math.Bool.{or-false}
-use Rattle.lexopt_items.specs.declared.values.Values.TheVariants.{AtMostOne, All}
 use Rattle.lexopt_options.proofs.Keys.{asked_more, parsed_length, parsed_more}
 use Rattle.lexopt_options.proofs.ReadNext.{count_more, count_small, no_count, none_within, one_more, option_parsed}
 
@@ -159,23 +156,23 @@ has_positional o limit u v w count seen parsed more word key had room reads firs
 }
 
 pub option_with : (index : ℕ) (values : Values) → IsOption index (parsed_with index values)
-option_with index (AtMostOne value) = refl
-option_with index (All values) = refl
+option_with index (at_most_one value) = refl
+option_with index (all values) = refl
 
 option_is : (index : ℕ) (values : Values) → legal.is_option index (parsed_with index values) ≡ true
-option_is index (AtMostOne value) = eq-eqb index index refl
-option_is index (All values) = eq-eqb index index refl
+option_is index (at_most_one value) = eq-eqb index index refl
+option_is index (all values) = eq-eqb index index refl
 
 -- an option with its values, and what it means
 pub read_so : {F V P M S : Type 0} (o : Options F V P M S) (count : ℕ) (u v w : UnreadLine) (name : Name) (k : Kind) (index : ℕ) (values : Values) (t : ByKey F V P M S)
-    → kind_view k ≡ kind_at (declaration_of o).options index → Next u (option_reply name) v → index_of (declaration_of o).options name ≡ Some index → ReadsValues k v values w
+    → k ≡ kind_at (declaration_of o).options index → Next u (option_reply name) v → index_of (declaration_of o).options name ≡ Some index → ReadsValues k v values w
     → IsByKey (options_of o) (parsed_with index values) t → refused_value (declaration_of o).options (parsed_with index values) ≡ None → IsReadByKey (declaration_of o) (options_of o) index count u (Ok t) w
 read_so o count u v w name k index values t k_is step found reads tells unrefused =
     (parsed_with index values, option_parsed (declaration_of o) count u v w name k index values o.sound k_is step found reads, tells, no_count index values, option_with index values, unrefused)
 
 -- an option with a value that it does not accept
 pub refused_so : {F V P M S : Type 0} (o : Options F V P M S) (count : ℕ) (u v w : UnreadLine) (name : Name) (k : Kind) (index : ℕ) (values : Values) (m : Mistake) (value : List ℕ)
-    → kind_view k ≡ kind_at (declaration_of o).options index → Next u (option_reply name) v → index_of (declaration_of o).options name ≡ Some index → ReadsValues k v values w
+    → k ≡ kind_at (declaration_of o).options index → Next u (option_reply name) v → index_of (declaration_of o).options name ≡ Some index → ReadsValues k v values w
     → (refused_value (declaration_of o).options (parsed_with index values) ≡ Some value) × IsMistake (declaration_of o) m (stops.invalid_value index value)
     → StopsAtOption (declaration_of o) u m
 refused_so o count u v w name k index values m value k_is step found reads refused = record {

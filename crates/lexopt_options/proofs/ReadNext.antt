@@ -6,7 +6,9 @@ use Rattle.lexopt_spec.specs.Steps as steps
 use Rattle.lexopt_spec.specs.Steps.{Next, NextStep, OptionalStep, optional_pending, optional_none, ReadsPositional, no_word_left, word_left, ReadsWord, no_word, reads_separator, reads_long, reads_cluster, reads_positional, joined_value, equals_value, next_in_cluster, after_separator, next_word}
 use Rattle.lexopt_spec.specs.Runs as calls
 use Rattle.lexopt_line_spec.specs.Table as spec
-use Rattle.lexopt_line_spec.specs.Table.{Name, kind}
+use Rattle.lexopt_line_spec.specs.Table.{Kind, Name, kind}
+use Rattle.lexopt_line_spec.specs.Values.{Values, at_most_one, all, ReadsValues, item_with}
+use Rattle.lexopt_line_spec.proofs.Bounds.{positional_falls, values_fall}
 use Rattle.lexopt_line_spec.specs.Readings.{ReadsFirst, first_positional, first_flag, first_one, first_optional, first_several, option_reply}
 use Rattle.lexopt_line_spec.proofs.ItemsRead.{one_more_item, option_given}
 use Rattle.lexopt_line_spec.proofs.RunAccounts.{step_line}
@@ -36,29 +38,23 @@ use Rattle.lexopt_options_spec.specs.Legal.{IsWithin, counts, most, positional_c
 use Rattle.lexopt_options_spec.proofs.Lists.{count_append, joined}
 use Rattle.lexopt_options_spec.proofs.Taken.{same_within}
 use Rattle.lexopt_options_spec.specs.Stops.{ReadsUpTo, Stops, not_declared, unknown_option}
-use Rattle.lexopt_items.specs.Items.{ReadsValues, item_with, kind_view}
-use Rattle.lexopt_items.specs.declared.kinds.Kind.{Kind}
-use Rattle.lexopt_items.specs.declared.kinds.Kind.TheVariants.{Flag, One, Optional, Several}
-use Rattle.lexopt_items.specs.declared.values.Values.{Values}
-use Rattle.lexopt_items.specs.declared.values.Values.TheVariants.{AtMostOne, All}
-use Rattle.lexopt_items.proofs.ReadsItems.{option_read, positional_read}
 use Rattle.lexopt_options.specs.declared.mistake.Mistake.{Mistake}
 use Rattle.lexopt_options.specs.Mistakes.{IsMistake}
 use Rattle.lexopt_options.specs.Reading.{ReadsParsed, StopsAtOption, UndeclaredNext, parsed_with}
 
 pub option_item : (d : Declaration) (name : Name) (index : ℕ) (values : Values) → index_of d.options name ≡ Some index → parsed_item d.options (item_with name values) ≡ Some (parsed_with index values)
-option_item d name index (AtMostOne value) found = ap (option_map (λ i. legal.option i value)) found
-option_item d name index (All values) found = ap (option_map (λ i. legal.several i values.items)) found
+option_item d name index (at_most_one value) found = ap (option_map (λ i. legal.option i value)) found
+option_item d name index (all values) found = ap (option_map (λ i. legal.several i values)) found
 
 pub no_count : (index : ℕ) (values : Values) → counts (parsed_with index values) ≡ 0
-no_count index (AtMostOne value) = refl
-no_count index (All values) = refl
+no_count index (at_most_one value) = refl
+no_count index (all values) = refl
 
 values_line : (k : Kind) (v w : UnreadLine) (values : Values) → ReadsValues k v values w → IsLine v → IsLine w
-values_line Flag v w (AtMostOne None) reads line = subst IsLine (sym reads) line
-values_line One v w (AtMostOne (Some word)) reads line = step_line calls.value v (steps.taken word) w line reads
-values_line Optional v w (AtMostOne value) reads line = step_line calls.optional v (steps.maybe value) w line reads
-values_line Several v w (All values) reads line = step_line (calls.values reads.0) v (steps.items values.items) w line reads.2
+values_line spec.flag v w (at_most_one None) reads line = subst IsLine (sym reads) line
+values_line spec.one v w (at_most_one (Some word)) reads line = step_line calls.value v (steps.taken word) w line reads
+values_line spec.optional v w (at_most_one value) reads line = step_line calls.optional v (steps.maybe value) w line reads
+values_line spec.several v w (all values) reads line = step_line (calls.values reads.0) v (steps.items values) w line reads.2
 values_line k v w values reads line = absurd reads
 
 -- in the table of the options, an option has the kind of the option at its index
@@ -70,21 +66,21 @@ kind_of_index (o ∷ os) name index sound found =
     ∙ sym (kind_of_name (o ∷ os) (get_or (o ∷ os) index o) sound (Contains-get_or (o ∷ os) index o at.0) name at.1)
 
 -- an option, and its values
-option_first : (t : spec.Table) (u v w : UnreadLine) (name : Name) (k : Kind) (values : Values) → kind_view k ≡ kind t name → Next u (option_reply name) v → ReadsValues k v values w
+option_first : (t : spec.Table) (u v w : UnreadLine) (name : Name) (k : Kind) (values : Values) → k ≡ kind t name → Next u (option_reply name) v → ReadsValues k v values w
     → ReadsFirst t u (item_with name values) w
-option_first t u v w name Flag (AtMostOne None) is step reads = subst (ReadsFirst t u (spec.option name None)) (sym reads) (first_flag name v (sym is) step)
-option_first t u v w name One (AtMostOne (Some word)) is step reads = first_one name word v w (sym is) step reads
-option_first t u v w name Optional (AtMostOne value) is step reads = first_optional name value v w (sym is) step reads
-option_first t u v w name Several (All values) is step reads = first_several name reads.0 values.items v w (sym is) step reads.1 reads.2
+option_first t u v w name spec.flag (at_most_one None) is step reads = subst (ReadsFirst t u (spec.option name None)) (sym reads) (first_flag name v (sym is) step)
+option_first t u v w name spec.one (at_most_one (Some word)) is step reads = first_one name word v w (sym is) step reads
+option_first t u v w name spec.optional (at_most_one value) is step reads = first_optional name value v w (sym is) step reads
+option_first t u v w name spec.several (all values) is step reads = first_several name reads.0 values v w (sym is) step reads.1 reads.2
 option_first t u v w name k values is step reads = absurd reads
 
 -- an option that is declared, with its values
-pub option_parsed : (d : Declaration) (count : ℕ) (u v w : UnreadLine) (name : Name) (k : Kind) (index : ℕ) (values : Values) → is_sound d.options ≡ true → kind_view k ≡ kind_at d.options index
+pub option_parsed : (d : Declaration) (count : ℕ) (u v w : UnreadLine) (name : Name) (k : Kind) (index : ℕ) (values : Values) → is_sound d.options ≡ true → k ≡ kind_at d.options index
     → Next u (option_reply name) v → index_of d.options name ≡ Some index → ReadsValues k v values w → ReadsParsed d count u (parsed_with index values) w
 option_parsed d count u v w name k index values sound k_is step found reads = record {
   item = item_with name values;
   reads = option_first (table d.options) u v w name k values (k_is ∙ kind_of_index d.options name index sound found) step reads;
-  shorter = (option_read (table d.options) u v w name k values (k_is ∙ kind_of_index d.options name index sound found) step reads).1;
+  shorter = values_fall u v w name k values step reads;
   parsed = option_item d name index values found;
   line = λ line. values_line k v w values reads (step_line calls.next u (option_reply name) v line step);
   within = λ within. same_within count (counts (parsed_with index values)) (most d.positionals) (no_count index values) within;
@@ -214,7 +210,7 @@ pub positional_parsed : (d : Declaration) (count : ℕ) (u v : UnreadLine) (word
 positional_parsed d count u v word room step = record {
   item = spec.positional word;
   reads = first_positional word v step;
-  shorter = (positional_read (table d.options) u v word step).1;
+  shorter = positional_falls u v word step;
   parsed = refl;
   line = λ line. step_line calls.next u (steps.positional word) v line step;
   within = λ within. room;

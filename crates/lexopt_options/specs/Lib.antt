@@ -1,5 +1,4 @@
 pub mod Declarations
-pub mod Tables
 pub mod Keys
 pub mod Reading
 pub mod Requests

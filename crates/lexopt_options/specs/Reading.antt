@@ -7,6 +7,7 @@ use Rattle.lexopt_spec.specs.Steps.{Next}
 use Rattle.lexopt_line_spec.specs.Readings.{ReadsFirst, option_reply, start}
 use Rattle.lexopt_line_spec.specs.Bound.{bound}
 use Rattle.lexopt_line_spec.specs.Table.{Item, Name, short, long}
+use Rattle.lexopt_line_spec.specs.Values.{Values, at_most_one, all}
 use Rattle.lexopt_options_spec.specs.Asking.{AskFor, first_asked, parsed_before}
 use Rattle.lexopt_options_spec.specs.Declaration as declared
 use Rattle.lexopt_options_spec.specs.Declaration.{Declaration, has, index_of}
@@ -18,8 +19,6 @@ use Rattle.lexopt_options_spec.specs.Legal.{positional_count, positional_words, 
 use Rattle.lexopt_options_spec.specs.Places.{AreTaken, least}
 use Rattle.lexopt_options_spec.specs.Stops as stops
 use Rattle.lexopt_options_spec.specs.Stops.{ReadsUpTo, Stops, StopsAt}
-use Rattle.lexopt_items.specs.declared.values.Values.{Values}
-use Rattle.lexopt_items.specs.declared.values.Values.TheVariants.{AtMostOne, All}
 use Rattle.lexopt_options.specs.declared.mistake.Mistake.{Mistake}
 use Rattle.lexopt_options.specs.declared.options.Options.{Options}
 use Rattle.lexopt_options.specs.declared.parsed.Parsed.{Parsed}
@@ -27,6 +26,7 @@ use Rattle.lexopt_options.specs.declared.read.Ended.{Ended}
 use Rattle.lexopt_options.specs.declared.read.Ended.TheVariants as ended
 use Rattle.lexopt_options.specs.declared.read.Outcome.{Outcome}
 use Rattle.lexopt_options.specs.declared.read.Outcome.TheVariants as outcome
+use Rattle.lexopt_options.specs.declared.read.Read.{Read}
 use Rattle.lexopt_declaration.specs.Models.{option_view}
 use Rattle.lexopt_declaration.specs.declared.declaration.Declared.{Declared}
 use Rattle.lexopt_options.specs.declared.parsed.ByKey.{ByKey}
@@ -36,8 +36,8 @@ use Rattle.lexopt_options.specs.Mistakes.{IsMistake}
 
 -- an option with these values
 abbrev pub parsed_with : ℕ → Values → spec.Parsed
-parsed_with index (AtMostOne value) = spec.option index value
-parsed_with index (All values) = spec.several index values.items
+parsed_with index (at_most_one value) = spec.option index value
+parsed_with index (all values) = spec.several index values
 
 -- the next item is a declared option, or one more positional that the declaration allows
 pub record ReadsParsed (d : Declaration) (count : ℕ) (u : UnreadLine) (s : spec.Parsed)
@@ -159,6 +159,12 @@ pub record HasStopped {F V P M S : Type 0} (o : Options F V P M S) (words : List
   pub own : first_asked (declaration_of o).options (parsed_before why read) ≡ None
   pub before : AreParsedAs (options_of o) (parsed_before why read) parsed
   pub firsts : AllFirst (positionals_of o) (positional_keys parsed)
+
+-- nothing was read
+pub record IsNothing {F V P M S : Type 0} (read : Read F V P M S) : Type 0 where
+  pub parsed : read.parsed.items ≡ []
+  pub seen : read.seen.items ≡ []
+  pub count : read.count ≡ 0
 
 -- the reading of the words, up to one positional more than `limit`, ends so
 abbrev pub HasEnded : {F V P M S : Type 0} → Options F V P M S → List (List ℕ) → Option ℕ → ℕ → List ℕ

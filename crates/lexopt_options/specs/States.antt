@@ -3,11 +3,9 @@ use Rattle.std.specs.Prelude.{◌≡◌, ◌≢◌, ◌++◌, ◌∷◌, ℕ, Bo
 use Rattle.std.specs.Prelude.{is_none, not}
 use Rattle.lexopt_spec.specs.UnreadLine.{IsNormalIn, UnreadLine, pending}
 use Rattle.lexopt_line_spec.specs.Table as table
+use Rattle.lexopt_line_spec.specs.Table.{Kind}
+use Rattle.lexopt_line_spec.specs.Values.{ReadsValues, Values}
 use Rattle.lexopt_base.specs.Pending.{is_joined}
-use Rattle.lexopt_items.specs.Items.{ReadsValues, kind_view}
-use Rattle.lexopt_items.specs.declared.kinds.Kind.{Kind}
-use Rattle.lexopt_items.specs.declared.kinds.Kind.TheVariants.{Several}
-use Rattle.lexopt_items.specs.declared.values.Values.{Values}
 use Rattle.lexopt_options_spec.specs.Completion.{IsOption, value_of}
 use Rattle.lexopt_options_spec.specs.Declaration.{Declaration}
 use Rattle.lexopt_options_spec.specs.Legal.{IsWithin, MeansFront, Parsed, are_accepted, most}
@@ -44,13 +42,13 @@ index_if false index = None
 -- a plain word right after the values of an option of this kind would be one more, where this is
 -- the pending value before they are read
 abbrev pub can_go_on : Kind → Option (List ℕ × Bool) → Bool
-can_go_on Several found = not (is_joined found)
+can_go_on table.several found = not (is_joined found)
 can_go_on kind found = false
 
 -- these are the values of the option at this index, at this line, or why it has none
 abbrev pub IsAfterName : Declaration → ℕ → UnreadLine → AfterName → UnreadLine → Type 0
 IsAfterName d i v (after.Values accepted first goes_on) w = (kind : Kind) × (values : Values)
-    × (kind_view kind ≡ kind_at d.options i) × ReadsValues kind v values w
+    × (kind ≡ kind_at d.options i) × ReadsValues kind v values w
     × (is_none (refused_value d.options (parsed_with i values)) ≡ accepted)
     × (value_of (parsed_with i values) ≡ first) × (can_go_on kind (pending v) ≡ goes_on)
 IsAfterName d i v (after.Lacks (state.Due j)) w = (j ≡ i) × (kind_at d.options i ≡ table.one)

@@ -29,13 +29,27 @@ use std::convert::Infallible;
 use std::str;
 
 /// What a typed word is, if it is not an option.
-#[derive(Debug, Clone, Copy)]
+#[derive(Debug)]
 pub enum Role<'a, F, V = Infallible, M = Infallible, S = Infallible> {
     /// A value of this option.
     Value(&'a Declared<'a, F, V, M, S>),
     /// A positional.
     Argument,
 }
+
+impl<F, V, M, S> Clone for Role<'_, F, V, M, S> {
+    ghost use Rattle.std.specs.Prelude.{◌≡◌, ⊤};
+
+    ghost is_clone = { λ own copy. copy ≡ own };
+
+    ghost is_infallible = { λ _. ⊤ };
+
+    fn clone(&self) -> Result<Self, AllocError> {
+        Ok(*self)
+    }
+}
+
+impl<F, V, M, S> Copy for Role<'_, F, V, M, S> {}
 
 /// An option whose value is typed in the same word: `--output=file`, `-ofile`.
 #[derive(Debug, Drop)]
@@ -72,7 +86,7 @@ pub struct Completion<'a, F, V = Infallible, M = Infallible, S = Infallible> {
 }
 
 // What a typed word is, if it is not an option.
-#[derive(Debug, Clone, Copy)]
+#[derive(Clone, Copy)]
 enum Place {
     // A value of the option at this index.
     Value(usize),

@@ -19,8 +19,8 @@ use crate::options::Options;
 use crate::read::{Outcome, is_full, missing_option, note, read_next};
 use lexopt_base::parser::Parser;
 use lexopt_base::refusal::Refusal;
+use lexopt_base::values::read_several;
 use lexopt_declaration::declaration::{Declared, Kind};
-use lexopt_items::values::read_several;
 use lexopt_words::os_string::OsString;
 use std::alloc::{AllocError, Global};
 

@@ -17,7 +17,7 @@ ghost use Rattle.lexopt_options.specs.Reading.{HasRead};
 use crate::mistake::Mistake;
 use crate::options::Options;
 use crate::parsed::{Asked, Parsed};
-use crate::read::{Ended, FIRST_ROOM, Read, missing_option, read_keys};
+use crate::read::{Ended, FIRST_ROOM, Read, missing_option, nothing_read, read_keys};
 use crate::refused::Refused;
 use lexopt_base::parser::Parser;
 use lexopt_base::raw::RawArgs;
@@ -126,13 +126,9 @@ fn read_options<'a, F: Copy, V: Copy, P: Copy, M: Copy, S: Copy>(
         → parser.old ≡ start (declaration_of options.now).short_equals words
         → IfOk result (λ leading. IsLeadingRead options.now words leading) }
 {
-    let read = read_keys(alloc, parser, options, Some(0), room.min(FIRST_ROOM))?;
-    let Read {
-        parsed,
-        seen,
-        ended,
-        ..
-    } = read;
+    let mut read = nothing_read(alloc, room.min(FIRST_ROOM))?;
+    let ended = read_keys(alloc, parser, options, Some(0), &mut read)?;
+    let Read { parsed, seen, .. } = read;
     match ended {
         Ended::End => Ok(end(options, parsed, &seen, Vec::new(alloc))),
         Ended::Positional(word) => {

@@ -226,7 +226,6 @@ mod places;
 mod read;
 pub mod refused;
 pub mod request;
-mod table;
 mod taken;
 pub mod usage;
 

@@ -45,7 +45,8 @@ impl fmt::Display for OptionName {
     }
 }
 
-/// What is wrong with a line. `Display` writes it on one line, without the name of the program:
+/// What is wrong with a line. `Display` and `Debug` write it on one line, without the name of the
+/// program:
 ///
 /// ```text
 /// invalid option '--verbsoe'; did you mean '--verbose'?
@@ -54,7 +55,7 @@ impl fmt::Display for OptionName {
 /// ```
 ///
 /// Each character that a terminal may act on is escaped, as [`Visible`](crate::Visible) does it.
-#[derive(Debug, Drop)]
+#[derive(Drop)]
 pub enum Mistake<'a> {
     /// An option that is not declared. Nothing after its name was read.
     UnknownOption {
@@ -207,6 +208,17 @@ impl fmt::Display for Mistake<'_> {
                 )
             }
         }
+    }
+}
+
+impl fmt::Debug for Mistake<'_> {
+    ghost use Rattle.std.specs.Prelude.{Some};
+    ghost use Rattle.lexopt_options.specs.Messages.{message};
+
+    ghost debug_output = { λ mistake. Some (message mistake) };
+
+    fn fmt<W: fmt::Write>(&self, f: &mut fmt::Formatter<W>) -> fmt::Result {
+        fmt::Display::fmt(self, f)
     }
 }
 

@@ -7,6 +7,8 @@ ghost use Rattle.lexopt_spec.specs.UnreadLine.{IsLine, Tail, UnreadLine};
 ghost use Rattle.lexopt_spec.specs.Steps as steps;
 ghost use Rattle.lexopt_spec.specs.Steps.{Next};
 ghost use Rattle.lexopt_line_spec.specs.Readings.{option_reply, start};
+ghost use Rattle.lexopt_line_spec.specs.Values.{ValuesEndBy};
+ghost use Rattle.lexopt_base.specs.Refusals.{refusal_reply};
 ghost use Rattle.lexopt_line_spec.specs.Table as table;
 ghost use Rattle.lexopt_options_spec.specs.Declaration.{Declaration, has, index_of, is_sound};
 ghost use Rattle.lexopt_options_spec.specs.Asking.{asked_by};
@@ -16,8 +18,6 @@ ghost use Rattle.lexopt_options_spec.specs.Legal.{refused_value};
 ghost use Rattle.lexopt_options_spec.specs.Places.{least};
 ghost use Rattle.lexopt_options_spec.specs.Stops as stops;
 ghost use Rattle.lexopt_declaration.specs.Models.{option_view};
-ghost use Rattle.lexopt_items.specs.Items.{ValuesEndBy, kind_view};
-ghost use Rattle.lexopt_items.specs.declared.kinds.Kind.{Kind};
 ghost use Rattle.lexopt_declaration.specs.Lookups.{names_at};
 ghost use Rattle.lexopt_options.specs.Declarations.{declaration_of, options_of, positionals_of};
 ghost use Rattle.lexopt_options.specs.Keys.{asked_view, parsed_words};
@@ -27,7 +27,8 @@ ghost use Rattle.lexopt_options.specs.Mistakes.{AreNames, IsMistake};
 ghost use Rattle.lexopt_options.specs.Lines.{IsLineRead};
 ghost use Rattle.lexopt_options.specs.Reading.{AllSeen, ComesNext, UndeclaredNext};
 ghost use Rattle.lexopt_options.specs.Reading.{HasEnded, HasRead, HasStopped, IsFirstUnseen};
-ghost use Rattle.lexopt_options.specs.Reading.{IsReadByKey, IsRight, IsWrong, ReadsParsed};
+ghost use Rattle.lexopt_options.specs.Reading.{IsNothing, IsReadByKey, IsRight, IsWrong};
+ghost use Rattle.lexopt_options.specs.Reading.{ReadsParsed};
 ghost use Rattle.lexopt_options.specs.Reading.{StopsAtOption, noted};
 
 use crate::listed::{accepts, invalid_value, refused_place};
@@ -39,12 +40,12 @@ use crate::refused::{Line, Refused};
 use crate::taken::invalid_argument;
 use lexopt_base::parser::{Found, Parser};
 use lexopt_base::refusal::Refusal;
+use lexopt_base::values::read_several;
 use lexopt_declaration::declaration as declared;
 use lexopt_declaration::declaration::{Declared, Names};
 use lexopt_declaration::lookup::{help_names_of, index_of_short};
 use lexopt_declaration::nearest::{hinted_names, long_names};
 use lexopt_declaration::positionals::argument_placeholder;
-use lexopt_items::values::read_several;
 use lexopt_words::os_string::OsString;
 use std::alloc::{AllocError, Global};
 
@@ -78,7 +79,7 @@ pub enum Ended<'a> {
 
 // What was read of a line.
 #[derive(Drop)]
-pub struct Read<'a, F, V, P, M, S> {
+pub struct Read<F, V, P, M, S> {
     // What the line means, by keys; if an option has a mistake, then before it. Each positional has
     // the key of the first declared one.
     pub parsed: Vec<Parsed<F, V, P, M, S>>,
@@ -86,8 +87,21 @@ pub struct Read<'a, F, V, P, M, S> {
     pub seen: Vec<usize>,
     // The number of positionals.
     pub count: usize,
-    // How the reading ended.
-    pub ended: Ended<'a>,
+}
+
+// What is read of a line before its first word: nothing. Its list has room for `room` things.
+#[inline(always)]
+pub fn nothing_read<F, V, P, M, S>(
+    alloc: Global,
+    room: usize,
+) -> Result<Read<F, V, P, M, S>, AllocError>
+    ensures { IfOk result (λ read. IsNothing read) }
+{
+    Ok(Read {
+        parsed: Vec::with_capacity(alloc, room)?,
+        seen: Vec::new(alloc),
+        count: 0,
+    })
 }
 
 // The mistake that this option, which was just read, has no value.
@@ -95,14 +109,15 @@ fn missing_value<'a, F, V, M, S>(
     option: &Declared<'a, F, V, M, S>,
     refused: Refusal,
 ) -> Result<Mistake<'a>, AllocError>
-    requires { (kind : Kind) × (u v w : UnreadLine) × (name : table.Name)
-        × Next u (option_reply name) v × (kind ≢ Kind.Flag) × ValuesEndBy kind v refused w }
-    ensures { IfOk result (λ mistake. (d : Declaration) (index : ℕ) (kind : Kind)
+    requires { (kind : table.Kind) × (u v w : UnreadLine) × (name : table.Name)
+        × Next u (option_reply name) v × (kind ≢ table.flag)
+        × ValuesEndBy kind v (refusal_reply refused) w }
+    ensures { IfOk result (λ mistake. (d : Declaration) (index : ℕ) (kind : table.Kind)
         (u v w : UnreadLine) (name : table.Name) → is_sound d.options ≡ true
         → slice_get d.options index ≡ Some (option_view option.now)
         → Next u (option_reply name) v → index_of d.options name ≡ Some index
-        → kind_view kind ≡ kinds.kind_at d.options index
-        → ValuesEndBy kind v refused w → StopsAtOption d u mistake) }
+        → kind ≡ kinds.kind_at d.options index
+        → ValuesEndBy kind v (refusal_reply refused) w → StopsAtOption d u mistake) }
 {
     match refused {
         Refusal::MissingValue(name) => Ok(Mistake::MissingValue {
@@ -389,69 +404,62 @@ fn ask<'a, F, V, P, M, S>(
     }
 }
 
-// Reads a line by keys, up to one positional more than `limit`, into a list that has room for
-// `room` things from the start. This function, `refuse` and `line_of` are always inlined for speed:
-// a call would hand over or return what was read, which would then stay in memory and not in
-// registers while the line is read.
+// Reads a line by keys, up to one positional more than `limit`, and adds what is read to `read`. The
+// caller owns `read`, so that this function has little to drop on each way out, and its proof stays
+// cheap. It, `refuse` and `line_of` are always inlined for speed: a call would hand over what was
+// read, which would then stay in memory and not in registers while the line is read.
 #[inline(always)]
 pub fn read_keys<'a, F: Copy, V: Copy, P: Copy, M: Copy, S: Copy>(
     alloc: Global,
     parser: &mut Parser,
     options: &Options<'a, F, V, P, M, S>,
     limit: Option<usize>,
-    room: usize,
-) -> Result<Read<'a, F, V, P, M, S>, AllocError>
+    read: &mut Read<F, V, P, M, S>,
+) -> Result<Ended<'a>, AllocError>
     requires line { IsLine parser.old }
     requires within { (n : ℕ) → IsWithin n limit
         → IsWithin n (most (declaration_of options.now).positionals) }
-    ensures { IfOk result (λ read. (words : List (List ℕ))
+    requires nothing { IsNothing read.old }
+    ensures { IfOk result (λ ended. (words : List (List ℕ))
         → parser.old ≡ start (declaration_of options.now).short_equals words
-        → HasEnded options.now words limit read.count read.seen.items read.parsed.items read.ended
-        parser.new) }
+        → HasEnded options.now words limit read.new.count read.new.seen.items
+        read.new.parsed.items ended parser.new) }
 {
     let declared = options.options();
-    let mut parsed = Vec::with_capacity(alloc, room)?;
-    let mut seen = Vec::new(alloc);
-    let mut count = 0usize;
-    let ended = loop {
+    loop {
         match read_next(parser, options)? {
             Outcome::Option(index) => {
                 let option = &declared[index];
                 match read_by_key(alloc, parser, option)? {
                     Ok(ByKey::Parsed(own)) => {
-                        parsed.push(own)?;
-                        note(option.required, index, &mut seen)?;
+                        read.parsed.push(own)?;
+                        note(option.required, index, &mut read.seen)?;
                     }
-                    Ok(ByKey::Asked(asked)) => break ask(parser, options, asked)?,
-                    Err(mistake) => break Ended::Mistake(mistake),
+                    Ok(ByKey::Asked(asked)) => return ask(parser, options, asked),
+                    Err(mistake) => return Ok(Ended::Mistake(mistake)),
                 }
             }
             Outcome::Positional(word) => {
-                if is_full(limit, count) {
-                    break Ended::Positional(word);
+                if is_full(limit, read.count) {
+                    return Ok(Ended::Positional(word));
                 }
                 let key = first_key(options.positionals());
-                parsed.push(Parsed::Positional(key, word))?;
-                count += 1;
+                read.parsed.push(Parsed::Positional(key, word))?;
+                read.count += 1;
             }
-            Outcome::End => break Ended::End,
+            Outcome::End => return Ok(Ended::End),
             Outcome::Undeclared(short) => {
-                break Ended::Mistake(unknown_option(alloc, parser, options, short)?);
+                let mistake = unknown_option(alloc, parser, options, short)?;
+                return Ok(Ended::Mistake(mistake));
             }
             Outcome::Unexpected(option, value) => {
                 // The option that has the value was read last.
-                let before = parsed.len().saturating_sub(1);
-                parsed.truncate(before);
-                break Ended::Mistake(Mistake::UnexpectedValue { option, value });
+                let before = read.parsed.len().saturating_sub(1);
+                read.parsed.truncate(before);
+                return Ok(Ended::Mistake(Mistake::UnexpectedValue { option, value }));
             }
         }
-    };
-    Ok(Read {
-        parsed,
-        seen,
-        count,
-        ended,
-    })
+    }
 }
 
 // Refuses a line for this mistake, before which it means this.
@@ -478,18 +486,18 @@ fn refuse<'a, F, V, P: Copy, M, S>(
 #[inline(always)]
 fn line_of<'a, F: Drop, V: Drop, P: Copy, M: Drop, S: Drop>(
     options: &Options<'a, F, V, P, M, S>,
-    read: Read<'a, F, V, P, M, S>,
+    read: Read<F, V, P, M, S>,
+    ended: Ended<'a>,
 ) -> Result<Line<'a, F, V, P, M, S>, AllocError>
     ensures { (words : List (List ℕ)) (v : UnreadLine)
         → HasEnded options.now words (most (declaration_of options.now).positionals)
-        read.entry.count read.entry.seen.items read.entry.parsed.items read.entry.ended v
+        read.count read.seen.items read.parsed.items ended.entry v
         → IfOk result (λ line. IsLineRead options.now words line) }
 {
     let Read {
         mut parsed,
         seen,
         count,
-        ended,
     } = read;
     match ended {
         Ended::End => match end_mistake(options, &parsed, count, &seen)? {
@@ -515,8 +523,9 @@ fn read_line<'a, F: Copy, V: Copy, P: Copy, M: Copy, S: Copy>(
 {
     let room = words.len().min(FIRST_ROOM);
     let mut parser = options.parser_of(words);
-    let read = read_keys(alloc, &mut parser, options, options.most(), room)?;
-    line_of(options, read)
+    let mut read = nothing_read(alloc, room)?;
+    let ended = read_keys(alloc, &mut parser, options, options.most(), &mut read)?;
+    line_of(options, read, ended)
 }
 
 impl<'a, F, V, P, M, S> Options<'a, F, V, P, M, S> {

@@ -9,20 +9,19 @@ use lexopt_declaration::declaration::Names;
 use lexopt_declaration::message::write_help;
 use std::convert::Infallible;
 use std::fmt;
-use std::fmt::Debug;
 use std::process::ExitCode;
 
 /// The status with which a program exits after it refused its command line.
 pub const USAGE_ERROR: u8 = 2;
 
-/// A line that was refused. [`Refused::print`] prints it. `Display` writes the same, without a line
-/// feed at the end:
+/// A line that was refused. [`Refused::print`] prints it. `Display` and `Debug` write the same,
+/// without a line feed at the end:
 ///
 /// ```text
 /// pack: invalid option '--verbsoe'; did you mean '--verbose'?
 /// Try 'pack --help' for more information.
 /// ```
-#[derive(Debug, Drop)]
+#[derive(Drop)]
 pub struct Refused<'a, F, V = Infallible, P = Infallible, M = Infallible, S = Infallible> {
     /// The name of the program.
     pub program: &'a str,
@@ -73,13 +72,20 @@ impl<F, V, P, M, S> fmt::Display for Refused<'_, F, V, P, M, S> {
     }
 }
 
-impl<
-    F: Debug + Drop,
-    V: Debug + Drop,
-    P: Debug + Drop,
-    M: Debug + Drop,
-    S: Debug + Drop,
-> std::error::Error for Refused<'_, F, V, P, M, S> {}
+impl<F, V, P, M, S> fmt::Debug for Refused<'_, F, V, P, M, S> {
+    ghost use Rattle.std.specs.Prelude.{Some};
+    ghost use Rattle.lexopt_options.specs.Messages.{message, refusal_text};
+
+    ghost debug_output = { λ refused. Some (refusal_text refused.program.now refused.help
+        (message refused.mistake)) };
+
+    fn fmt<W: fmt::Write>(&self, f: &mut fmt::Formatter<W>) -> fmt::Result {
+        fmt::Display::fmt(self, f)
+    }
+}
+
+impl<F: Drop, V: Drop, P: Drop, M: Drop, S: Drop> std::error::Error
+    for Refused<'_, F, V, P, M, S> {}
 
 /// The result of reading a line.
 #[derive(Debug, Drop)]

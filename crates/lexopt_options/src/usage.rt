@@ -27,10 +27,10 @@ use std::str::FromStr;
 /// `UsageError::from` makes it of a text, such as a literal or what `format!` returns. A text is
 /// kept whole.
 ///
-/// `Display` writes what is wrong, without a line feed at the end. What [`Options::report`] returns
-/// also has the name of the program, and where the help is. A value that could not be converted is
-/// shown as [`Visible`] does it, and the names of its option are escaped. Texts, causes and the
-/// messages of other errors are written as they are.
+/// `Display` and `Debug` write what is wrong, without a line feed at the end. What
+/// [`Options::report`] returns also has the name of the program, and where the help is. A value that
+/// could not be converted is shown as [`Visible`] does it, and the names of its option are escaped.
+/// Texts, causes and the messages of other errors are written as they are.
 ///
 /// # Examples
 ///
@@ -51,7 +51,7 @@ use std::str::FromStr;
 ///     Ok(jobs)
 /// }
 /// ```
-#[derive(Debug, Drop)]
+#[derive(Drop)]
 pub enum UsageError<'a> {
     /// A value could not be converted.
     Invalid {
@@ -84,6 +84,17 @@ impl fmt::Display for UsageError<'_> {
             UsageError::Formatted(text) => f.write_str(text),
             UsageError::OutOfMemory => write_no_memory(f),
         }
+    }
+}
+
+impl fmt::Debug for UsageError<'_> {
+    ghost use Rattle.std.specs.Prelude.{Some};
+    ghost use Rattle.lexopt_options.specs.Usage.{usage_message};
+
+    ghost debug_output = { λ error. Some (usage_message error) };
+
+    fn fmt<W: fmt::Write>(&self, f: &mut fmt::Formatter<W>) -> fmt::Result {
+        fmt::Display::fmt(self, f)
     }
 }
 
@@ -150,8 +161,8 @@ impl<'a> From<&'a str> for UsageError<'a> {
 }
 
 /// What to print about a mistake that the program found. [`Report::print`] prints it. `Display`
-/// writes the same, without a line feed at the end.
-#[derive(Debug, Drop)]
+/// and `Debug` write the same, without a line feed at the end.
+#[derive(Drop)]
 pub struct Report<'a> {
     /// The name of the program.
     pub program: &'a str,
@@ -202,6 +213,17 @@ impl fmt::Display for Report<'_> {
             UsageError::OutOfMemory => Ok(()),
             _ => write_help(program, self.help, f),
         }
+    }
+}
+
+impl fmt::Debug for Report<'_> {
+    ghost use Rattle.std.specs.Prelude.{Some};
+    ghost use Rattle.lexopt_options.specs.Usage.{report_text};
+
+    ghost debug_output = { λ report. Some (report_text report) };
+
+    fn fmt<W: fmt::Write>(&self, f: &mut fmt::Formatter<W>) -> fmt::Result {
+        fmt::Display::fmt(self, f)
     }
 }
 

@@ -1,7 +1,7 @@
 //! Each public call of `Commands`, and the words, the variable and `COLUMNS` of an environment.
 use crate::git::{Flag, Task, Value, git};
 use lexopt_commands::{Command, CommandLine, Commands, Step, declare_commands};
-use lexopt_options::{OsString, Request};
+use lexopt_options::{Mistake, OsString, Refused, Request};
 use std::alloc::{AllocError, Global};
 use std::fmt::Debug;
 use test_helpers::environments::{Arguments, Variable};
@@ -60,13 +60,13 @@ static ROWS: [(Call, &[u8], &str); 17] = [
     (
         Read,
         b"-v help re x",
-        "[Flag(Verbose)], then UnknownCommand { word: \"re\", rest: [\"x\", \"--help\"], \
-        hints: [\"remove\", \"remote\"] }",
+        "[Flag(Verbose)], then unknown command \"re\"; did you mean one of 'remove', 'remote'? \
+        [\"x\", \"--help\"]",
     ),
     (
         Read,
         b"-v",
-        "[Flag(Verbose)], then MissingCommand([\"add\", \"remove\", \"remote\", \"help\"])",
+        "[Flag(Verbose)], then missing command: one of add, remove, remote, help []",
     ),
     (Answer, b"help", HELP_AT_30),
     (Answer, b"--version", "git 1.0\n"),
@@ -108,8 +108,9 @@ static ROWS: [(Call, &[u8], &str); 17] = [
     ),
 ];
 
-// The meaning of a line, as `Debug` writes it: the general options, the command's name, its key and
-// its words; or the request; or the general options before the mistake, and the mistake.
+// The meaning of a line: the general options, the command's name, its key and its words; or the
+// request; or the general options before the mistake, its message, and the words for a command that
+// is not known.
 fn text_of_line(
     alloc: Global,
     line: &Result<CommandLine<'_, Task, Flag, Value>, AllocError>,
@@ -120,9 +121,25 @@ fn text_of_line(
         }
         Ok(CommandLine::Asked(asked)) => format!(in alloc; "{asked:?}"),
         Ok(CommandLine::Refused(refused)) => {
-            format!(in alloc; "{:?}, then {:?}", refused.before, refused.mistake)
+            let Refused {
+                before,
+                mistake,
+                ..
+            } = refused;
+            format!(in alloc;
+                "{before:?}, then {mistake} {:?}",
+                words_of_unknown(mistake)
+            )
         }
         Err(_) => Err(AllocError),
+    }
+}
+
+// The words for the command that is not known; none for another mistake.
+fn words_of_unknown<'a>(mistake: &'a Mistake<'_>) -> &'a [OsString] {
+    match mistake {
+        Mistake::UnknownCommand { rest, .. } => rest,
+        _ => &[],
     }
 }
 

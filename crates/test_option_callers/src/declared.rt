@@ -19,6 +19,7 @@ ghost use Rattle.test_option_callers.specs.Tool.{IsToolUsage, ToolAnswer, ToolLi
 ghost use Rattle.test_option_callers.specs.Tool.{tool_options};
 
 use lexopt_items::items::Table;
+use lexopt_option_table::table_of;
 use lexopt_options::{
     Answer, Completion, Count, Declaration, Declared, Kind, Leading, Line, Names, Options,
     OsString, Positional, Request, Words, variable,
@@ -271,5 +272,5 @@ pub fn usage_and_help(alloc: Global, width: usize) -> Result<(String, String), A
 pub fn table(alloc: Global) -> Result<Table, AllocError>
     ensures { IfOk result (λ made. table_view made ≡ spec.table tool_options) }
 {
-    Options::new(&TOOL).table(alloc)
+    table_of(alloc, &Options::new(&TOOL))
 }

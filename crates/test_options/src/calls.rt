@@ -3,6 +3,7 @@ use crate::archive::{
     ARCHIVE, ArchiveLeading, ArchiveLine, ArchiveOptions, Flag, archive, archive_of_files,
     text_of_answer,
 };
+use lexopt_option_table::table_of;
 use lexopt_options::{
     DeclarationError, Declared, Leading, Line, Names, Options, OsString, Reason, Request, Shell,
 };
@@ -166,7 +167,7 @@ fn returns_parts(options: &ArchiveOptions<'static>) -> bool {
 
 // Whether the table has each option that takes values in the list of its kind.
 fn has_each_kind(alloc: Global) -> Result<bool, AllocError> {
-    let table = archive_of_files().table(alloc)?;
+    let table = table_of(alloc, &archive_of_files())?;
     Ok(
         table.shorts.as_slice() == ['o'].as_slice()
             && table.optional_shorts.as_slice() == ['b'].as_slice()

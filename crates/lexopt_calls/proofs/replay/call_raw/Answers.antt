@@ -5,7 +5,8 @@ use Rattle.lexopt_spec.specs.Steps.{items}
 use Rattle.lexopt_spec.specs.Runs.{Step, raw}
 use Rattle.lexopt_base.specs.Replies.{error_reply}
 use Rattle.lexopt_calls.specs.Replies.{reply_view}
-use Rattle.lexopt_calls.proofs.StepReplies.{err_told, refusal_given, some_reply}
+use Rattle.lexopt_base.proofs.Refusals.{err_told}
+use Rattle.lexopt_calls.proofs.StepReplies.{refusal_given, some_reply}
 use Rattle.lexopt_calls.proofs.Views.{raw_made}
 use Rattle.lexopt_calls.proofs.replay.call_raw.Goals as goal
 

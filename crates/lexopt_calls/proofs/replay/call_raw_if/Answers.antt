@@ -3,7 +3,8 @@ use Rattle.lexopt_spec.specs.UnreadLine.{UnreadLine}
 use Rattle.lexopt_spec.specs.Steps.{maybe}
 use Rattle.lexopt_spec.specs.Runs.{Step, raw_if}
 use Rattle.lexopt_base.specs.Replies.{error_reply}
-use Rattle.lexopt_calls.proofs.StepReplies.{err_told, refusal_given, some_reply}
+use Rattle.lexopt_base.proofs.Refusals.{err_told}
+use Rattle.lexopt_calls.proofs.StepReplies.{refusal_given, some_reply}
 use Rattle.lexopt_calls.proofs.Views.{raw_if_made}
 use Rattle.lexopt_calls.proofs.replay.call_raw_if.Goals as goal
 

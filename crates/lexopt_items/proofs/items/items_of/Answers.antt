@@ -1,6 +1,7 @@
 use Rattle.lexopt_base.specs.Refusals.{IsErrorOf}
+use Rattle.lexopt_base.proofs.Refusals.{err_says}
 use Rattle.lexopt_items.specs.Items.{FailsWith, table_view}
-use Rattle.lexopt_items.proofs.ReadsItems.{err_alone, err_says, is_refused}
+use Rattle.lexopt_items.proofs.ReadsItems.{err_alone, is_refused}
 use Rattle.lexopt_items.proofs.items.items_of.Goals as goal
 
 pub returns-in-Err-clause-ok : goal.returns-in-Err-clause-ok

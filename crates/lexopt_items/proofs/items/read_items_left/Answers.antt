@@ -1,6 +1,7 @@
 use Rattle.std.proofs.Common.{map}
 use Rattle.lexopt_items.specs.Items.{item_view, table_view}
-use Rattle.lexopt_items.proofs.ReadsItems.{handed_on, refused_later, end_read}
+use Rattle.lexopt_base.proofs.Refusals.{handed_on}
+use Rattle.lexopt_items.proofs.ReadsItems.{refused_later, end_read}
 use Rattle.lexopt_items.proofs.items.read_items_left.Goals as goal
 
 pub returns-in_err-read_item-clause-err : goal.returns-in_err-read_item-clause-err

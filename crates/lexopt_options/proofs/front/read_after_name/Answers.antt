@@ -3,19 +3,20 @@ use Rattle.std.proofs.lemmas.Bool.{false≢true}
 use Rattle.lexopt_options_spec.specs.Declaration as declared
 use Rattle.lexopt_declaration.specs.Models.{words_view}
 use Rattle.lexopt_declaration.specs.declared.declaration.Kind.TheVariants as kind
-use Rattle.lexopt_items.specs.Items.{ReadsValues, ValuesEndBy}
-use Rattle.lexopt_items.specs.declared.kinds.Kind.TheVariants as arity
-use Rattle.lexopt_items.specs.declared.values.Values.TheVariants as values
+use Rattle.lexopt_base.specs.Refusals.{refusal_reply}
+use Rattle.lexopt_line_spec.specs.Values.{ReadsValues, ValuesEndBy}
+use Rattle.lexopt_line_spec.specs.Table as arity
+use Rattle.lexopt_line_spec.specs.Values as values
 use Rattle.lexopt_options.specs.declared.front.AfterName.TheVariants as after
 use Rattle.lexopt_options.specs.declared.front.State.TheVariants as state
 use Rattle.lexopt_options.proofs.Accepted.{none_is}
-use Rattle.lexopt_options.proofs.Fronts.{accepts_here, all_accepted, first_is, flag_here, value_lacks, kind_here, lacks_values, maybe_so, taken_so}
+use Rattle.lexopt_options.proofs.Fronts.{accepts_here, all_accepted, first_is, flag_here, value_lacks, kind_here, lacks_values, maybe_so, several_ends, taken_so}
 use Rattle.lexopt_options.proofs.front.read_after_name.Goals as goal
 
 pub returns-in-Flag : goal.returns-in-Flag
 returns-in-Flag g c = λ d at. (
-  arity.Flag,
-  values.AtMostOne None,
+  arity.flag,
+  values.at_most_one None,
   flag_here d.options c.args.index c.args.option.now at c.in-Flag.is,
   refl,
   refl,
@@ -25,8 +26,8 @@ returns-in-Flag g c = λ d at. (
 
 pub returns-in-Ok : goal.returns-in-Ok
 returns-in-Ok g c = λ d at. (
-  arity.One,
-  values.AtMostOne (Some c.in-Ok.value),
+  arity.one,
+  values.at_most_one (Some c.in-Ok.value),
   kind_here d.options c.args.index c.args.option.now (kind.Value c.in-Value.field-0 c.in-Value.field-1) at c.in-Value.is,
   taken_so c.args.parser.now c.take.new.self c.take.result (Ok c.in-Ok.value) c.in-Ok.is c.take.ensures,
   accepts_here d.options c.args.index c.args.option.now c.in-Ok.value at ∙ sym c.accepts.ensures,
@@ -36,8 +37,8 @@ returns-in-Ok g c = λ d at. (
 
 pub returns-in-Some : goal.returns-in-Some
 returns-in-Some g c = λ d at. (
-  arity.Optional,
-  values.AtMostOne (Some c.in-Some.value),
+  arity.optional,
+  values.at_most_one (Some c.in-Some.value),
   kind_here d.options c.args.index c.args.option.now (kind.Maybe c.in-Maybe.field-0 c.in-Maybe.field-1) at c.in-Maybe.is,
   maybe_so c.args.parser.now c.optional_value.new.self c.optional_value.result (Some c.in-Some.value) c.in-Some.is c.optional_value.ensures,
   accepts_here d.options c.args.index c.args.option.now c.in-Some.value at ∙ sym c.accepts-in-Some.ensures,
@@ -47,8 +48,8 @@ returns-in-Some g c = λ d at. (
 
 pub returns-in-None : goal.returns-in-None
 returns-in-None g c = λ d at. (
-  arity.Optional,
-  values.AtMostOne None,
+  arity.optional,
+  values.at_most_one None,
   kind_here d.options c.args.index c.args.option.now (kind.Maybe c.in-Maybe.field-0 c.in-Maybe.field-1) at c.in-Maybe.is,
   maybe_so c.args.parser.now c.optional_value.new.self c.optional_value.result None c.in-None.is c.optional_value.ensures,
   refl,
@@ -58,10 +59,10 @@ returns-in-None g c = λ d at. (
 
 pub returns-in-Ok-read_several : goal.returns-in-Ok-read_several
 returns-in-Ok-read_several g c = λ d at. (
-  arity.Several,
-  values.All c.in-Ok-read_several.values,
+  arity.several,
+  values.all c.in-Ok-read_several.values.items,
   kind_here d.options c.args.index c.args.option.now (kind.Values c.in-Values.field-0 c.in-Values.field-1) at c.in-Values.is,
-  subst (λ u. ReadsValues arity.Several u (values.All c.in-Ok-read_several.values) c.read_several.new.parser) c.is_at_end-is_last.ensures.same c.in-Ok-read_several.ensures.ok,
+  subst (λ u. ReadsValues arity.several u (values.all c.in-Ok-read_several.values.items) c.read_several.new.parser) c.is_at_end-is_last.ensures.same c.in-Ok-read_several.ensures.ok,
   all_accepted d.options c.args.index c.args.option.now c.in-Ok-read_several.values.items c.refused_place.result at (c.refused_place.ensures ∙ ap (λ (l : List (List ℕ)). position (λ value. not (declared.accepts (words_view c.args.option.now.words) value)) l) c.deref.ensures.value) ∙ sym (none_is c.refused_place.result c.is_none.result c.is_none.ensures),
   first_is c.args.index c.in-Ok-read_several.values.items ∙ sym c.first_of.ensures,
   sym (ap not c.has_joined_value-is_joined.ensures),
@@ -70,13 +71,13 @@ returns-in-Ok-read_several g c = λ d at. (
 pub returns-then-is_last : goal.returns-then-is_last
 returns-then-is_last g c =
     value_lacks c.lacking-then-is_last.result (after.Lacks (state.First c.args.index)) c.in-Err-read_several.refused _ c.lacking-then-is_last.ensures (λ lacks d at.
-    let both = lacks_values c.args.parser.now c.read_several.new.parser c.in-Err-read_several.refused (subst (λ u. ValuesEndBy arity.Several u c.in-Err-read_several.refused c.read_several.new.parser) c.is_at_end-is_last.ensures.same c.in-Err-read_several.ensures.err) lacks in
+    let both = lacks_values c.args.parser.now c.read_several.new.parser c.in-Err-read_several.refused (subst (λ u. ValuesEndBy arity.several u (refusal_reply c.in-Err-read_several.refused) c.read_several.new.parser) c.is_at_end-is_last.ensures.same (several_ends _ c.read_several.new.parser c.in-Err-read_several.refused c.in-Err-read_several.ensures.err)) lacks in
     (refl, sym (kind_here d.options c.args.index c.args.option.now (kind.Values c.in-Values.field-0 c.in-Values.field-1) at c.in-Values.is), both.0, (c.is_at_end-is_last.ensures.at_end both.0).0 c.if-is_last.true))
 
 pub returns-else-is_last : goal.returns-else-is_last
 returns-else-is_last g c =
     value_lacks c.lacking-else-is_last.result after.Missing c.in-Err-read_several.refused _ c.lacking-else-is_last.ensures (λ lacks d at.
-    let both = lacks_values c.args.parser.now c.read_several.new.parser c.in-Err-read_several.refused (subst (λ u. ValuesEndBy arity.Several u c.in-Err-read_several.refused c.read_several.new.parser) c.is_at_end-is_last.ensures.same c.in-Err-read_several.ensures.err) lacks in (
+    let both = lacks_values c.args.parser.now c.read_several.new.parser c.in-Err-read_several.refused (subst (λ u. ValuesEndBy arity.several u (refusal_reply c.in-Err-read_several.refused) c.read_several.new.parser) c.is_at_end-is_last.ensures.same (several_ends _ c.read_several.new.parser c.in-Err-read_several.refused c.in-Err-read_several.ensures.err)) lacks in (
       sym (kind_here d.options c.args.index c.args.option.now (kind.Values c.in-Values.field-0 c.in-Values.field-1) at c.in-Values.is),
       both.0,
       λ none. false≢true (sym c.if-is_last.false ∙ (c.is_at_end-is_last.ensures.at_end both.0).1 none),

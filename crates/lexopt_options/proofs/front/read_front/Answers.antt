@@ -1,8 +1,7 @@
 use Rattle.std.proofs.Common.{◌∙◌, ◌≡◌, ◌↔◌, IsTrue, ℕ, List, None, Some, arith, ap, false, length, refl, subst, sym}
 use Rattle.std.proofs.lemmas.Bool.{false≢true}
-use Rattle.lexopt_items.proofs.ReadsItems.{positional_read}
+use Rattle.lexopt_line_spec.proofs.Bounds.{positional_falls}
 use Rattle.lexopt_declaration.specs.Models.{option_view}
-use Rattle.lexopt_options_spec.specs.Declaration.{table}
 use Rattle.lexopt_options_spec.specs.States.{is_further, state_at_end}
 use Rattle.lexopt_options.specs.Declarations.{declaration_of, options_of}
 use Rattle.lexopt_options.specs.Reading.{noted}
@@ -83,7 +82,7 @@ returns-then-is_full g c = λ words is.
 pub loop-last-smaller : goal.loop-last-smaller
 loop-last-smaller g c =
     let next = rw c.in-Positional.is at c.in_ok-index.ensures in
-    (positional_read (table (declaration_of c.args.options.now).options) c.loop-last.parser c.read_next.new.parser c.in-Positional.word next).1
+    positional_falls c.loop-last.parser c.read_next.new.parser c.in-Positional.word next
 
 pub loop-last-preserved : goal.loop-last-preserved
 loop-last-preserved g c =

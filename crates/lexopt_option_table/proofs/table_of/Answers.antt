@@ -3,8 +3,8 @@ use Rattle.std.proofs.lemmas.List.{take_all}
 use Rattle.lexopt_options_spec.specs.Declaration as spec
 use Rattle.lexopt_declaration.specs.Models.{option_view}
 use Rattle.lexopt_items.specs.Items.{table_view}
-use Rattle.lexopt_options.proofs.Tables.{table_of_more}
-use Rattle.lexopt_options.proofs.options.Options.table.Goals as goal
+use Rattle.lexopt_option_table.proofs.Tables.{table_of_more}
+use Rattle.lexopt_option_table.proofs.table_of.Goals as goal
 
 pub loop-option-init : goal.loop-option-init
 loop-option-init g c = c.new-table.ensures

@@ -1,11 +1,10 @@
-use Rattle.std.proofs.Common.{arith, subst, sym, ◌<◌, rules, length, List, ℕ, refl}
+use Rattle.std.proofs.Common.{arith, subst, sym, ◌<◌, rules, length, List, ℕ, inr}
 use Rattle.lexopt_spec.specs.UnreadLine.{UnreadLine}
 use Rattle.lexopt_spec.specs.Steps.{items}
 use Rattle.lexopt_spec.specs.Runs.{Step, values}
+use Rattle.lexopt_base.proofs.Refusals.{err_told, handed_on}
 use Rattle.lexopt_base.proofs.ValueCalls.{values_made}
-use Rattle.lexopt_items.specs.declared.kinds.Kind.TheVariants.{Several}
-use Rattle.lexopt_items.proofs.ReadsItems.{err_told, handed_on, value_refused}
-use Rattle.lexopt_items.proofs.values.read_several.Goals as goal
+use Rattle.lexopt_base.proofs.values.read_several.Goals as goal
 
 pub returns-clause-ok : goal.returns-clause-ok
 returns-clause-ok c =
@@ -25,5 +24,4 @@ returns-clause-ok c =
 pub returns-in_err-view-clause-err : goal.returns-in_err-view-clause-err
 returns-in_err-view-clause-err c =
     let told = err_told c.begin_values.result c.in_err-view.field-0.0 _ c.in_err-view.was c.begin_values.follows.holds-at-none in
-    handed_on c.from_residual.result c.in_err-view.field-0.0 _ c.from_residual.ensures.1
-    (value_refused Several c.args.parser.now _ c.in_err-view.field-0.0 (values 1) (1, refl) (told 1))
+    handed_on c.from_residual.result c.in_err-view.field-0.0 _ c.from_residual.ensures.1 (inr (1, told 1))

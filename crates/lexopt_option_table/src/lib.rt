@@ -1,14 +1,19 @@
-//! The table of the declared options, by which items are read and spelled.
+//! The table of declared options, by which `read_items` and `spell` of the crate `lexopt` know how
+//! many values each has. A program that calls `table_of` names `lexopt_options` and `lexopt` too.
+//!
+//! In the example `alloc` is `rt.alloc()`, where `rt` is the runtime that `main` gets; `Error`,
+//! `Options` and `OsString` are those of `lexopt_options`.
+#![tactic(auto)]
+
 ghost use Rattle.std.specs.Prelude.{◌≡◌, IfOk, OnOk};
 ghost use Rattle.lexopt_options_spec.specs.Declaration as spec;
 ghost use Rattle.lexopt_items.specs.Items.{table_view};
 ghost use Rattle.lexopt_declaration.specs.Models.{option_view};
-ghost use Rattle.lexopt_options.specs.Tables.{AddsNames, AddsOption};
+ghost use Rattle.lexopt_option_table.specs.Tables.{AddsNames, AddsOption};
 ghost use Rattle.lexopt_options.specs.Declarations.{declaration_of};
 
-use crate::options::Options;
-use lexopt_declaration::declaration::{Declared, Kind};
 use lexopt_items::items::Table;
+use lexopt_options::{Declared, Kind, Options};
 use std::alloc::{AllocError, Global};
 
 // Adds the names of an option to these lists.
@@ -30,7 +35,7 @@ fn add_names<F, V, M, S>(
     Ok(())
 }
 
-// Adds an option to the table. A flag is in no list of it.
+// Adds an option to the table. One without values is in no list of it.
 fn add_option<F, V, M, S>(
     alloc: Global,
     option: &Declared<'_, F, V, M, S>,
@@ -57,37 +62,39 @@ fn add_option<F, V, M, S>(
     }
 }
 
-impl<F, V, P, M, S> Options<'_, F, V, P, M, S> {
-    /// Returns the table of the options, by which `read_items` and `spell` of the crate `lexopt`
-    /// know how many values each has.
-    ///
-    /// # Errors
-    ///
-    /// Returns `AllocError` if an allocation fails.
-    ///
-    /// # Examples
-    ///
-    /// ```rust
-    /// use lexopt::replay::{Item, read_items};
-    /// use std::alloc::Global;
-    ///
-    /// fn items_of(
-    ///     alloc: Global,
-    ///     options: &Options<'_, Flag, Value, Word>,
-    ///     words: Vec<OsString>,
-    /// ) -> Result<Vec<Item>, Error> {
-    ///     let table = options.table(alloc)?;
-    ///     read_items(alloc, words, options.has_short_equals(), &table)
-    /// }
-    /// ```
-    pub fn table(&self, alloc: Global) -> Result<Table, AllocError>
-        ensures { IfOk result (λ made.
-            table_view made ≡ spec.table (declaration_of self.now).options) }
-    {
-        let mut table = Table::new(alloc);
-        for option in self.options() {
-            add_option(alloc, option, &mut table)?;
-        }
-        Ok(table)
+/// Returns the table of these options. A flag, and an option that asks for the help or the version,
+/// is in no list of it.
+///
+/// # Errors
+///
+/// Returns `AllocError` if an allocation fails.
+///
+/// # Examples
+///
+/// ```rust
+/// use lexopt::replay::{Item, read_items};
+/// use lexopt_option_table::table_of;
+/// use std::alloc::Global;
+///
+/// fn items_of<F, V, P, M, S>(
+///     alloc: Global,
+///     options: &Options<'_, F, V, P, M, S>,
+///     words: Vec<OsString>,
+/// ) -> Result<Vec<Item>, Error> {
+///     let table = table_of(alloc, options)?;
+///     read_items(alloc, words, options.has_short_equals(), &table)
+/// }
+/// ```
+pub fn table_of<F, V, P, M, S>(
+    alloc: Global,
+    options: &Options<'_, F, V, P, M, S>,
+) -> Result<Table, AllocError>
+    ensures { IfOk result (λ made.
+        table_view made ≡ spec.table (declaration_of options.now).options) }
+{
+    let mut table = Table::new(alloc);
+    for option in options.options() {
+        add_option(alloc, option, &mut table)?;
     }
+    Ok(table)
 }

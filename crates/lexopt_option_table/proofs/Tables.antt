@@ -8,7 +8,7 @@ use Rattle.lexopt_options_spec.specs.Declaration as spec
 use Rattle.lexopt_options_spec.specs.Declaration.{if_kind}
 use Rattle.lexopt_declaration.specs.declared.declaration.Declared.{Declared}
 use Rattle.lexopt_declaration.specs.Models.{option_view}
-use Rattle.lexopt_options.specs.Tables.{AddsOption}
+use Rattle.lexopt_option_table.specs.Tables.{AddsOption}
 
 same_table : (t u : Table) → t.shorts ≡ u.shorts → t.longs ≡ u.longs → t.optional_shorts ≡ u.optional_shorts → t.optional_longs ≡ u.optional_longs → t.several_shorts ≡ u.several_shorts
     → t.several_longs ≡ u.several_longs → t ≡ u
