@@ -23,6 +23,7 @@ use commands::{GENERAL, answer_command, commands_of};
 use declared::{DECLARATION, Flag, Maybe, Value, Values, Word};
 use lexopt_commands::Commands;
 use lexopt_options::{Declaration, Line, Options, OsString, Role};
+use lexopt_runtime_options::try_options;
 use seen::Seen;
 use std::alloc::{AllocError, Global};
 use std::convert::Infallible;
@@ -71,7 +72,7 @@ fn declare<'a>(
     declaration: &'a Declaration<'a, Flag, Value, Word, Maybe, Values>,
     seen: &mut Seen,
 ) -> Option<Options<'a, Flag, Value, Word, Maybe, Values>> {
-    match Options::try_new(declaration) {
+    match try_options(declaration) {
         Ok(options) => {
             seen.options(options.options().len());
             Some(options)

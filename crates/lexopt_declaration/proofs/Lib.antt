@@ -1,10 +1,7 @@
-pub mod Faults
 pub mod Positions
 pub mod Counting
 pub mod Hinted
 pub mod Rows
 pub mod Candidates
 pub mod Spelled
-pub mod Repeated
 pub mod Marks
-pub mod BadLists

@@ -2,8 +2,6 @@ pub mod Models
 pub mod Declarations
 pub mod Texts
 pub mod Lookups
-pub mod Faults
 pub mod Rows
 pub mod Candidates
 pub mod Scripts
-pub mod Combined

@@ -15,12 +15,6 @@ use Rattle.lexopt_declaration.specs.declared.declaration.Count.{Count}
 use Rattle.lexopt_declaration.specs.declared.declaration.Count.TheVariants.{Once, AtMostOnce, AnyNumber}
 use Rattle.lexopt_declaration.specs.declared.declaration.Count.TheVariants.{AtLeastOnce}
 use Rattle.lexopt_declaration.specs.declared.declaration.Positional.{Positional}
-use Rattle.lexopt_declaration.specs.declared.declaration.Reason.{Reason}
-use Rattle.lexopt_declaration.specs.declared.declaration.Reason.TheVariants.{DashName, EmptyName}
-use Rattle.lexopt_declaration.specs.declared.declaration.Reason.TheVariants.{EqualsInName}
-use Rattle.lexopt_declaration.specs.declared.declaration.Reason.TheVariants.{ReplacementInName, BadPlaceholder}
-use Rattle.lexopt_declaration.specs.declared.declaration.Reason.TheVariants.{BlankOrControlInName}
-use Rattle.lexopt_declaration.specs.declared.declaration.Reason.TheVariants.{BadList, SameName}
 use Rattle.lexopt_declaration.specs.declared.spellings.Spelling.{Spelling}
 use Rattle.lexopt_declaration.specs.declared.declaration.Words.{Words}
 use Rattle.lexopt_declaration.specs.declared.declaration.Words.TheVariants.{Files, Directories}
@@ -102,13 +96,3 @@ positional_view p = record {
   help = p.help.now;
   words = words_view p.words;
 }
-
-abbrev pub reason_view : Reason → spec.Reason
-reason_view DashName = spec.dash_name
-reason_view EmptyName = spec.empty_name
-reason_view EqualsInName = spec.equals_in_name
-reason_view ReplacementInName = spec.replacement_in_name
-reason_view BlankOrControlInName = spec.blank_or_control_in_name
-reason_view BadPlaceholder = spec.bad_placeholder
-reason_view BadList = spec.bad_list
-reason_view SameName = spec.same_name

@@ -1,19 +1,11 @@
-//! What a program declares: its options and its positionals; and why it cannot.
-ghost use Rattle.std.specs.Prelude.{◌≡◌, ◌==◌, ◌∷◌, [], true, map, option_map};
-ghost use Rattle.std.specs.Option.{MatchOption};
-ghost use Rattle.std.specs.List.{list_all, list_any};
+//! What a program declares: its options and its positionals.
+ghost use Rattle.std.specs.Prelude.{◌≡◌, ◌∷◌, [], map};
 ghost use Rattle.std.specs.Char.{IsScalar};
-ghost use Rattle.std.specs.Str.{IsUtf8, chars};
-ghost use Rattle.lexopt_spec.specs.Pieces.{lossy_characters, replacement};
+ghost use Rattle.std.specs.Str.{IsUtf8};
 ghost use Rattle.lexopt_options_spec.specs.Completion.{AreText};
-ghost use Rattle.lexopt_options_spec.specs.Declaration as spec;
-ghost use Rattle.lexopt_options_spec.specs.Declaration.{are_clear, are_listable, has, is_sound};
-ghost use Rattle.lexopt_declaration.specs.Faults.{IsDeclarationError, IsOptionError};
-ghost use Rattle.lexopt_declaration.specs.Models.{arity_kind, arity_placeholder, option_view};
-ghost use Rattle.lexopt_declaration.specs.Models.{positional_view, reason_view, words_view};
+ghost use Rattle.lexopt_declaration.specs.Models.{option_view};
 
 use crate::message::Escaped;
-use crate::positionals::{first_bad_list, second_repeated};
 use lexopt_words::message::write_escaped;
 use std::alloc::AllocError;
 use std::convert::Infallible;
@@ -77,8 +69,8 @@ impl<'a> Names<'a> {
         }
     }
 
-    // Whether this is its character.
-    pub(crate) fn is_short(self, character: char) -> bool
+    /// Returns whether this is its character.
+    pub fn is_short(self, character: char) -> bool
         ensures { result ≡ spec.is_short character (short_name self.entry) }
     {
         match self.short() {
@@ -87,9 +79,9 @@ impl<'a> Names<'a> {
         }
     }
 
-    // Whether this is its name.
+    /// Returns whether this is its name, without the dashes.
     #[inline(always)]
-    pub(crate) fn is_long(self, name: &str) -> bool
+    pub fn is_long(self, name: &str) -> bool
         ensures { result ≡ spec.is_long name.now (long_name self.entry) }
     {
         match self.long() {
@@ -497,7 +489,7 @@ impl<'a, F, V, M, S> Declared<'a, F, V, M, S> {
     }
 
     /// Makes the option accept only the values in this list, which shells offer and the help shows.
-    /// [`Reason::BadList`] says which lists cannot be declared.
+    /// `Reason::BadList` of `lexopt_runtime_options` says which lists cannot be declared.
     ///
     /// # Examples
     ///
@@ -718,119 +710,6 @@ impl<'a, P> Positional<'a, P> {
     }
 }
 
-/// Why an option cannot be declared. `Display` writes it, such as `its name is empty`. The `Reason`
-/// of `lexopt_commands` is about the names of commands.
-#[derive(Debug, Clone, Copy, PartialEq, Eq)]
-pub enum Reason {
-    /// Its character is `-`: the word `--` is the separator, and `--name` is a long option.
-    DashName,
-    /// Its name is empty.
-    EmptyName,
-    /// Its name has `=` in it: the word `--a=b` is the option `a` with a value.
-    EqualsInName,
-    /// Its character is U+FFFD, or its name has it. U+FFFD represents damage in what was typed.
-    ReplacementInName,
-    /// Its character is a blank or a control character of ASCII, or its name has one. A shell
-    /// separates words at blanks, and a terminal acts on control characters.
-    BlankOrControlInName,
-    /// The placeholder of its value is empty, or begins with `-` or `=`. A form that the help shows
-    /// could then be illegal, or mean another value.
-    BadPlaceholder,
-    /// The list of its values is empty, or one of them is empty, begins with `-` or `=`, or has a
-    /// blank or a control character of ASCII in it.
-    BadList,
-    /// An option before it has the same character or name.
-    SameName,
-}
-
-/// What cannot be declared. `Display` and `Debug` write it on one line:
-///
-/// ```text
-/// option '--output': an option before it has one of its names
-/// positional argument FILE: one before it may occur more than once too
-/// ```
-#[derive(Clone, Copy, PartialEq, Eq)]
-pub enum DeclarationError<'a> {
-    /// An option that cannot be declared after those before it.
-    Option {
-        /// The names of the option.
-        option: Names<'a>,
-        /// The reason.
-        reason: Reason,
-    },
-    /// The second positional that may occur more than once: its placeholder.
-    Positional(&'a str),
-    /// A positional whose list is empty, or has a word that is empty, begins with `-` or `=`, or
-    /// has a blank or a control character of ASCII in it: its placeholder.
-    BadList(&'a str),
-}
-
-impl fmt::Display for Reason {
-    ghost use Rattle.std.specs.Prelude.{Some};
-    ghost use Rattle.lexopt_declaration.specs.Texts.{reason_text};
-
-    ghost output = { λ reason. Some (reason_text reason) };
-
-    fn fmt<W: fmt::Write>(&self, f: &mut fmt::Formatter<W>) -> fmt::Result {
-        match self {
-            Reason::DashName => f.write_str("its character is '-'"),
-            Reason::EmptyName => f.write_str("its name is empty"),
-            Reason::EqualsInName => f.write_str("its name has '=' in it"),
-            Reason::ReplacementInName => f.write_str("its name has U+FFFD in it"),
-            Reason::BlankOrControlInName => {
-                f.write_str("its name has a blank or a control character in it")
-            }
-            Reason::BadPlaceholder => {
-                f.write_str("its placeholder is empty or begins with '-' or '='")
-            }
-            Reason::BadList => f.write_str(
-                "the list of its values is empty, or one of them is empty, begins with '-' or '=', \
-                 or has a blank or a control character in it",
-            ),
-            Reason::SameName => f.write_str("an option before it has one of its names"),
-        }
-    }
-}
-
-impl fmt::Display for DeclarationError<'_> {
-    ghost use Rattle.std.specs.Prelude.{Some};
-    ghost use Rattle.lexopt_declaration.specs.Texts.{declaration_error_text};
-
-    ghost output = { λ error. Some (declaration_error_text error) };
-
-    fn fmt<W: fmt::Write>(&self, f: &mut fmt::Formatter<W>) -> fmt::Result {
-        match self {
-            DeclarationError::Option { option, reason } => {
-                write!(f, "option '{option}': {reason}")
-            }
-            DeclarationError::Positional(placeholder) => {
-                let placeholder = Escaped(placeholder);
-                write!(
-                    f,
-                    "positional argument {placeholder}: one before it may occur more than once too"
-                )
-            }
-            DeclarationError::BadList(placeholder) => {
-                let placeholder = Escaped(placeholder);
-                write!(f, "positional argument {placeholder}: {}", Reason::BadList)
-            }
-        }
-    }
-}
-
-impl fmt::Debug for DeclarationError<'_> {
-    ghost use Rattle.std.specs.Prelude.{Some};
-    ghost use Rattle.lexopt_declaration.specs.Texts.{declaration_error_text};
-
-    ghost debug_output = { λ error. Some (declaration_error_text error) };
-
-    fn fmt<W: fmt::Write>(&self, f: &mut fmt::Formatter<W>) -> fmt::Result {
-        fmt::Display::fmt(self, f)
-    }
-}
-
-impl std::error::Error for DeclarationError<'_> {}
-
 /// What a program declares. The macro `declare!` of `lexopt_options` writes it with a line for each
 /// option.
 ///
@@ -861,7 +740,7 @@ pub struct Declaration<'a, F, V = Infallible, P = Infallible, M = Infallible, S 
     pub short_equals: bool,
     /// For each hash of a long name, the index of an option that may have the name. It only makes
     /// look-ups faster: what it holds changes no result. `declare!` leaves it empty, and then each
-    /// look-up goes through the options in turn. [`Combined`](crate::combined::Combined) fills it.
+    /// look-up goes through the options in turn. `Combined` of `lexopt_runtime_options` fills it.
     pub guesses: &'a [u16],
 }
 
@@ -879,183 +758,27 @@ impl<F, V, P, M, S> Clone for Declaration<'_, F, V, P, M, S> {
 
 impl<F, V, P, M, S> Copy for Declaration<'_, F, V, P, M, S> {}
 
-// Whether a name has U+FFFD in it. It is separate from `has_replacement` for the proof: its
-// contract is by the characters of the name, and not by those of its lossy text.
-fn any_replacement(name: &str) -> bool
-    ensures { result ≡ list_any (λ c. c == replacement) (chars name.now) }
-{
-    name.chars().any(|character| character == '\u{FFFD}')
+/// A group of options, for `Combined::new` of `lexopt_runtime_options`. `declare_group!` of
+/// `lexopt_options` makes one.
+#[derive(Debug)]
+pub struct Group<'a, F, V = Infallible, M = Infallible, S = Infallible> {
+    /// Its options.
+    pub options: &'a [Declared<'a, F, V, M, S>],
 }
 
-// Whether a name has U+FFFD in it.
-fn has_replacement(name: &str) -> bool
-    ensures { result ≡ has replacement (lossy_characters name.now) }
-{
-    any_replacement(name)
-}
+impl<F, V, M, S> Clone for Group<'_, F, V, M, S> {
+    ghost use Rattle.std.specs.Prelude.{◌≡◌, ⊤};
 
-// Whether a byte is a blank or a control character of ASCII.
-fn is_blank_or_control(byte: u8) -> bool
-    ensures { result ≡ spec.is_blank_or_control byte }
-{
-    byte < b'!' || byte == 0x7F
-}
+    ghost is_clone = { λ own copy. copy ≡ own };
 
-// Whether a name has a blank or a control character of ASCII in it.
-fn has_blank_or_control(name: &str) -> bool
-    ensures { result ≡ list_any spec.is_blank_or_control name.now }
-{
-    name.as_bytes()
-        .iter()
-        .any(|byte| is_blank_or_control(*byte))
-}
+    ghost is_infallible = { λ _. ⊤ };
 
-// What is wrong with the character of an option.
-fn short_fault(name: Option<char>) -> Option<Reason>
-    ensures { option_map reason_view result ≡ spec.short_fault name }
-{
-    match name {
-        Some('-') => Some(Reason::DashName),
-        Some('\u{FFFD}') => Some(Reason::ReplacementInName),
-        Some('\0'..=' ' | '\x7F') => Some(Reason::BlankOrControlInName),
-        Some(_) | None => None,
+    fn clone(&self) -> Result<Self, AllocError> {
+        Ok(*self)
     }
 }
 
-// What is wrong with a name.
-fn name_fault(name: &str) -> Option<Reason>
-    ensures { option_map reason_view result ≡ spec.long_fault (Some name.now) }
-{
-    if name.is_empty() {
-        Some(Reason::EmptyName)
-    } else if name.as_bytes().contains(&b'=') {
-        Some(Reason::EqualsInName)
-    } else if has_replacement(name) {
-        Some(Reason::ReplacementInName)
-    } else if has_blank_or_control(name) {
-        Some(Reason::BlankOrControlInName)
-    } else {
-        None
-    }
-}
-
-// What is wrong with the name of an option, if it has one.
-fn long_fault(name: Option<&str>) -> Option<Reason>
-    ensures { option_map reason_view result ≡ spec.long_fault (option_map (λ n. n.now) name.entry) }
-{
-    match name {
-        Some(name) => name_fault(name),
-        None => None,
-    }
-}
-
-// What is wrong with the placeholder of a value.
-fn placeholder_fault(arity: Arity<'_>) -> Option<Reason>
-    ensures { option_map reason_view result
-        ≡ spec.placeholder_fault (arity_kind arity.entry) (arity_placeholder arity.entry) }
-{
-    let placeholder = match arity {
-        Arity::Zero => return None,
-        Arity::One(placeholder) | Arity::Optional(placeholder) | Arity::Several(placeholder) => {
-            placeholder.as_bytes()
-        }
-    };
-    match placeholder {
-        [] | [b'-' | b'=', ..] => Some(Reason::BadPlaceholder),
-        _ => None,
-    }
-}
-
-// Whether this can be in a list.
-fn is_listable(value: &str) -> bool
-    ensures { result ≡ spec.is_listable value.now }
-{
-    match value.as_bytes() {
-        [] | [b'-' | b'=', ..] => false,
-        _ => !has_blank_or_control(value),
-    }
-}
-
-// Whether each of these can be in a list.
-fn are_listable(values: &[&str]) -> bool
-    ensures { result ≡ list_all (λ value. spec.is_listable value.now) values.now }
-{
-    values.iter().all(|value| is_listable(value))
-}
-
-// What is wrong with a list, if there is one.
-pub(crate) fn list_fault(words: Words<'_>) -> Option<Reason>
-    ensures { option_map reason_view result ≡ spec.list_fault (words_view words.entry) }
-{
-    match words {
-        Words::Files | Words::Directories | Words::Text => None,
-        Words::Listed(values) => {
-            if values.is_empty() {
-                return Some(Reason::BadList);
-            }
-            if are_listable(values) {
-                None
-            } else {
-                Some(Reason::BadList)
-            }
-        }
-    }
-}
-
-// Whether two options have a name in common.
-fn shares_name<F, V, M, S>(
-    option: &Declared<'_, F, V, M, S>,
-    other: &Declared<'_, F, V, M, S>,
-) -> bool
-    ensures { result ≡ spec.shares_name (option_view option.now) (option_view other.now) }
-{
-    let short = match option.names.short() {
-        Some(character) => other.names.is_short(character),
-        None => false,
-    };
-    let long = match option.names.long() {
-        Some(name) => other.names.is_long(name),
-        None => false,
-    };
-    short || long
-}
-
-// Whether an option has a name in common with one of these.
-fn any_shares_name<F, V, M, S>(
-    option: &Declared<'_, F, V, M, S>,
-    others: &[Declared<'_, F, V, M, S>],
-) -> bool
-    ensures { result
-        ≡ list_any (λ o. spec.shares_name (option_view option.now) (option_view o)) others.now }
-{
-    others.iter().any(|other| shares_name(option, other))
-}
-
-// What is wrong with an option after these options.
-fn fault<F, V, M, S>(
-    before: &[Declared<'_, F, V, M, S>],
-    option: &Declared<'_, F, V, M, S>,
-) -> Option<Reason>
-    ensures { option_map reason_view result
-        ≡ spec.fault (map option_view before.now) (option_view option.now) }
-{
-    if let Some(reason) = short_fault(option.names.short()) {
-        return Some(reason);
-    }
-    if let Some(reason) = long_fault(option.names.long()) {
-        return Some(reason);
-    }
-    if let Some(reason) = placeholder_fault(option.kind.arity()) {
-        return Some(reason);
-    }
-    if let Some(reason) = list_fault(option.words) {
-        return Some(reason);
-    }
-    if any_shares_name(option, before) {
-        return Some(Reason::SameName);
-    }
-    None
-}
+impl<F, V, M, S> Copy for Group<'_, F, V, M, S> {}
 
 // States that a character is a Unicode scalar value. This and the next three functions do nothing:
 // they are there for their clauses.
@@ -1088,44 +811,5 @@ pub fn are_text<F, V, M, S>(options: &[Declared<'_, F, V, M, S>])
 {
     for option in options {
         option_is_text(option);
-    }
-}
-
-// The names of the first option that cannot be declared after those before it, and the reason.
-fn first_fault<'a, F, V, M, S>(
-    options: &'a [Declared<'a, F, V, M, S>],
-) -> Option<(Names<'a>, Reason)>
-    ensures { MatchOption result (is_sound (map option_view options.now) ≡ true)
-        (λ fault. IsOptionError options.now fault.0 fault.1) }
-{
-    for (index, option) in options.iter().enumerate() {
-        if let Some(reason) = fault(&options[..index], option) {
-            return Some((option.names, reason));
-        }
-    }
-    None
-}
-
-/// Returns the first fault of a declaration: the first option that cannot be declared after those
-/// before it; otherwise the second positional that may occur more than once; otherwise the first
-/// positional whose list cannot be declared.
-pub fn declaration_fault<'a, F, V, P, M, S>(
-    declaration: &'a Declaration<'a, F, V, P, M, S>,
-) -> Option<DeclarationError<'a>>
-    ensures { MatchOption result
-        ((is_sound (map option_view declaration.now.options.now) ≡ true)
-        × (are_clear (map positional_view declaration.now.positionals.now) ≡ true)
-        × (are_listable (map positional_view declaration.now.positionals.now) ≡ true))
-        (IsDeclarationError declaration.now) }
-{
-    if let Some((option, reason)) = first_fault(declaration.options) {
-        return Some(DeclarationError::Option { option, reason });
-    }
-    if let Some(placeholder) = second_repeated(declaration.positionals) {
-        return Some(DeclarationError::Positional(placeholder));
-    }
-    match first_bad_list(declaration.positionals) {
-        Some(placeholder) => Some(DeclarationError::BadList(placeholder)),
-        None => None,
     }
 }

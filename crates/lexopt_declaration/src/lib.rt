@@ -8,7 +8,6 @@
 //! variants are its keys.
 #![tactic(auto)]
 
-pub mod combined;
 pub mod declaration;
 mod examples;
 pub mod help;

@@ -8,7 +8,6 @@ ghost use Rattle.lexopt_declaration.specs.Models.{option_view};
 ghost use Rattle.lexopt_declaration.specs.Lookups.{help_names, is_help, names_at};
 
 use crate::declaration::{Declared, Kind, Names};
-use std::alloc::{AllocError, Global};
 
 // The index of the first option with this character. It is separate from `index_of_short` only for
 // the proof: its contract is by `position`.
@@ -71,10 +70,10 @@ fn number_at(bytes: &[u8], place: usize) -> u64
 // bits.
 const FACTOR: u64 = 0x9E37_79B9_7F4A_7C15;
 
-// The slot of a name among this many, which are a power of two. It is computed from the first eight
-// bytes, the last eight and the length, or from all bytes if they are fewer than eight. Nothing is
-// proved of it: two names may have one slot.
-fn slot_of(name: &str, slots: usize) -> usize {
+/// Returns the slot of a name among this many, which are a power of two. It is computed from the
+/// first eight bytes, the last eight and the length, or from all bytes if there are fewer than
+/// eight. Nothing is proved of it: two names may have one slot.
+pub fn slot_of(name: &str, slots: usize) -> usize {
     let bytes = name.as_bytes();
     let mut hash = bytes.len() as u64;
     if bytes.len() < 8 {
@@ -89,35 +88,6 @@ fn slot_of(name: &str, slots: usize) -> usize {
     }
     let mixed = (hash ^ (hash >> 32)).wrapping_mul(FACTOR) >> 32;
     mixed as usize & slots.wrapping_sub(1)
-}
-
-// How many slots are made for each option, at least.
-const SLOTS_FOR_EACH: usize = 4;
-
-/// Returns a table of guesses, by which `guessed_long` finds long names of these options. Of two
-/// options with one slot, the later one has it, since the other is found sooner without a guess.
-/// Options after the first 65,536 have none.
-///
-/// # Errors
-///
-/// Returns `AllocError` if an allocation fails.
-pub fn guesses_for<F, V, M, S>(
-    alloc: Global,
-    options: &[Declared<'_, F, V, M, S>],
-) -> Result<Vec<u16>, AllocError> {
-    let slots = options
-        .len()
-        .next_power_of_two()
-        .saturating_mul(SLOTS_FOR_EACH);
-    let mut guesses = vec![in alloc; 0u16; slots]?;
-    for (option, index) in options.iter().zip(0u16..=u16::MAX) {
-        if let Some(name) = option.names.long() {
-            if let Some(guess) = guesses.get_mut(slot_of(name, slots)) {
-                *guess = index;
-            }
-        }
-    }
-    Ok(guesses)
 }
 
 /// Returns the names of the option at this index.

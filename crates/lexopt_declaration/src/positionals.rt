@@ -1,19 +1,16 @@
-//! How many positionals a line has to have and may have, and whether they can be declared.
+//! How many positionals a line has to have and may have.
 ghost use Rattle.std.specs.Prelude.{◌≡◌, filter, length, map, true};
 ghost use Rattle.std.specs.List.{list_any};
-ghost use Rattle.std.specs.Option.{MatchOption};
 ghost use Rattle.lexopt_options_spec.specs.Declaration as spec;
-ghost use Rattle.lexopt_options_spec.specs.Declaration.{are_clear, are_listable};
 ghost use Rattle.lexopt_options_spec.specs.Legal.{most};
 ghost use Rattle.lexopt_options_spec.specs.Places.{least};
 ghost use Rattle.lexopt_options_spec.specs.Stops.{required_placeholder};
-ghost use Rattle.lexopt_declaration.specs.Faults.{IsListError, IsPositionalError};
 ghost use Rattle.lexopt_declaration.specs.Models.{count_view, positional_view};
 
-use crate::declaration::{Count, Positional, list_fault};
+use crate::declaration::{Count, Positional};
 
-// Whether a positional may occur more than once.
-fn may_repeat<P>(positional: &Positional<'_, P>) -> bool
+/// Returns whether a positional may occur more than once.
+pub fn may_repeat<P>(positional: &Positional<'_, P>) -> bool
     ensures { result ≡ spec.may_repeat (count_view positional.now.count) }
 {
     match positional.count {
@@ -84,34 +81,4 @@ pub fn argument_placeholder<'a, P>(positionals: &'a [Positional<'a, P>], n: usiz
         }
     }
     ""
-}
-
-// The placeholder of the second positional that may occur more than once.
-pub(crate) fn second_repeated<'a, P>(positionals: &'a [Positional<'a, P>]) -> Option<&'a str>
-    ensures { MatchOption result (are_clear (map positional_view positionals.now) ≡ true)
-        (IsPositionalError positionals.now) }
-{
-    let mut repeated = false;
-    for positional in positionals {
-        if may_repeat(positional) {
-            if repeated {
-                return Some(positional.placeholder);
-            }
-            repeated = true;
-        }
-    }
-    None
-}
-
-// The placeholder of the first positional whose list cannot be declared.
-pub(crate) fn first_bad_list<'a, P>(positionals: &'a [Positional<'a, P>]) -> Option<&'a str>
-    ensures { MatchOption result (are_listable (map positional_view positionals.now) ≡ true)
-        (IsListError positionals.now) }
-{
-    for argument in positionals {
-        if list_fault(argument.words).is_some() {
-            return Some(argument.placeholder);
-        }
-    }
-    None
 }

@@ -161,8 +161,9 @@
 //! # What to call
 //!
 //! - [`Options::new`] takes a declaration in a `static`. `rt check` and `rt run` refuse a program
-//!   whose declaration is faulty; `rt try` does not notice it. [`Options::try_new`] takes a
-//!   declaration that is made when the program runs, and may return a [`DeclarationError`].
+//!   whose declaration is faulty; `rt try` does not notice it. `try_options` of
+//!   `lexopt_runtime_options` takes a declaration that is made when the program runs, and may
+//!   return a `DeclarationError`.
 //! - [`Options::from_env`] reads the program's own line, or the request of a shell. It returns an
 //!   [`Answer`]. `Answer::Parsed` has what the line means, in the order in which it was typed.
 //!   `Answer::Text` has the help, the version or what a shell asked for, to be printed.
@@ -241,9 +242,8 @@ pub use request::Request;
 pub use usage::{Report, UsageError};
 
 // The parts of a declaration, and the scripts for shells.
-pub use lexopt_declaration::combined::{Combined, Group};
 pub use lexopt_declaration::declaration::{
-    Arity, Count, Declaration, DeclarationError, Declared, Kind, Names, Positional, Reason, Words,
+    Arity, Count, Declaration, Declared, Group, Kind, Names, Positional, Words,
 };
 pub use lexopt_declaration::help::WIDTH;
 pub use lexopt_declaration::shell::{Script, Shell, ShellRequest, variable};

@@ -8,9 +8,7 @@ ghost use Rattle.lexopt_options.specs.Taken.{has_list};
 ghost use Rattle.lexopt_declaration.specs.Models.{option_view, positional_view};
 
 use crate::taken::any_has_list;
-use lexopt_declaration::declaration::{
-    Declaration, DeclarationError, Declared, Positional, are_text, declaration_fault,
-};
+use lexopt_declaration::declaration::{Declaration, Declared, Positional, are_text};
 use lexopt_declaration::help;
 use lexopt_declaration::lookup::{guessed_long, index_of_long};
 use lexopt_declaration::positionals::{least_of, most_of};
@@ -19,8 +17,8 @@ use std::convert::Infallible;
 
 /// A declaration whose options and positionals can all be declared together.
 ///
-/// [`Options::new`] and [`Options::try_new`] make it. It borrows the declaration and is `Copy`. The
-/// types of keys are those of [`Declaration`].
+/// [`Options::new`] makes it, and so does `try_options` of `lexopt_runtime_options`. It borrows the
+/// declaration and is `Copy`. The types of keys are those of [`Declaration`].
 pub struct Options<'a, F, V = Infallible, P = Infallible, M = Infallible, S = Infallible> {
     declaration: &'a Declaration<'a, F, V, P, M, S>,
     // The name of the program: that of the declaration, or the path of a command.
@@ -55,8 +53,8 @@ fn any_is_required<F, V, M, S>(options: &[Declared<'_, F, V, M, S>]) -> bool
     options.iter().any(|option| is_required(option))
 }
 
-// Makes `Options` of a declaration that can be declared. It is not inlined, so that the loops
-// before it, which check each option, keep their registers.
+// Makes `Options` of a declaration that can be declared. It is not inlined, so that the loops of
+// `try_options`, which check each option before it, keep their registers.
 #[inline(never)]
 fn checked<'a, F, V, P, M, S>(
     declaration: &'a Declaration<'a, F, V, P, M, S>,
@@ -78,7 +76,7 @@ fn checked<'a, F, V, P, M, S>(
 }
 
 impl<'a, F, V, P, M, S> Options<'a, F, V, P, M, S> {
-    ghost use Rattle.std.specs.Prelude.{◌≡◌, IfOk, MatchResult, None, map, string_bytes, true};
+    ghost use Rattle.std.specs.Prelude.{◌≡◌, IfOk, None, map, string_bytes, true};
     ghost use Rattle.std.specs.List.{list_any};
     ghost use Rattle.lexopt_line_spec.specs.Table as table;
     ghost use Rattle.lexopt_options_spec.specs.Legal as legal;
@@ -89,7 +87,6 @@ impl<'a, F, V, P, M, S> Options<'a, F, V, P, M, S> {
     ghost use Rattle.lexopt_options_spec.specs.Declaration.{is_sound};
     ghost use Rattle.lexopt_options_spec.specs.Help.{IsHelp, IsUsage};
     ghost use Rattle.lexopt_declaration.specs.Models.{option_view, positional_view};
-    ghost use Rattle.lexopt_declaration.specs.Faults.{IsDeclarationError};
     ghost use Rattle.lexopt_declaration.specs.Declarations.{declaration_view};
     ghost use Rattle.lexopt_options.specs.Declarations.{declaration_of, options_of, positionals_of};
 
@@ -97,12 +94,12 @@ impl<'a, F, V, P, M, S> Options<'a, F, V, P, M, S> {
     ///
     /// The prover computes for a constant or a static that all of it can be declared together. So
     /// `rt check` refuses a program with a faulty declaration, and this call cannot fail when a
-    /// proved program runs. [`DeclarationError`] and [`Reason`](crate::Reason) list the faults. If
-    /// an option is at fault, the message of `rt check` has its index, counted from 0, and the
-    /// reason.
+    /// proved program runs. `DeclarationError` and `Reason` of `lexopt_runtime_options` list the
+    /// faults. If an option is at fault, the message of `rt check` has its index, counted from 0,
+    /// and the reason.
     ///
     /// A program with more than a hundred options declares them in groups, and combines these by
-    /// [`Combined`](crate::Combined).
+    /// `Combined` of `lexopt_runtime_options`.
     ///
     /// # Examples
     ///
@@ -123,44 +120,6 @@ impl<'a, F, V, P, M, S> Options<'a, F, V, P, M, S> {
     {
         are_text(declaration.options);
         checked(declaration)
-    }
-
-    /// Returns the options of a declaration that is known only when the program runs.
-    ///
-    /// # Errors
-    ///
-    /// The error is the first of these that applies:
-    ///
-    /// - [`DeclarationError::Option`] has the names of the first option that cannot be declared
-    ///   after those before it, and the reason.
-    /// - [`DeclarationError::Positional`] has the placeholder of the second positional that may
-    ///   occur more than once.
-    /// - [`DeclarationError::BadList`] has the placeholder of the first positional whose list of
-    ///   words cannot be declared.
-    ///
-    /// # Examples
-    ///
-    /// ```rust
-    /// match Options::try_new(&DECLARATION) {
-    ///     Ok(options) => rt.print(options.help(alloc, WIDTH)?)?,
-    ///     // If two options have the name `output`, this prints:
-    ///     // pack: option '--output': an option before it has one of its names
-    ///     Err(error) => eprintln!(rt; "pack: {error}")?,
-    /// }
-    /// ```
-    pub fn try_new(
-        declaration: &'a Declaration<'a, F, V, P, M, S>,
-    ) -> Result<Options<'a, F, V, P, M, S>, DeclarationError<'a>>
-        ensures { MatchResult result
-            (λ options. (declaration_of options ≡ declaration_view declaration.now)
-            × (options_of options ≡ declaration.now.options.now)
-            × (positionals_of options ≡ declaration.now.positionals.now))
-            (IsDeclarationError declaration.now) }
-    {
-        if let Some(error) = declaration_fault(declaration) {
-            return Err(error);
-        }
-        Ok(checked(declaration))
     }
 
     /// Returns whether `=` in a cluster separates an option from its value, as in `-o=file`.

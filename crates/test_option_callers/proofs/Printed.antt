@@ -13,16 +13,17 @@ use Rattle.lexopt_options_spec.specs.Declaration.{IsFirstBadList, IsFirstFault, 
 use Rattle.lexopt_options_spec.specs.Help.{IsUsage}
 use Rattle.lexopt_declaration.specs.Declarations.{declaration_view}
 use Rattle.lexopt_declaration.specs.Lookups.{names_at}
-use Rattle.lexopt_declaration.specs.Models.{count_view, positional_view, reason_view}
+use Rattle.lexopt_declaration.specs.Models.{count_view, positional_view}
+use Rattle.lexopt_runtime_options.specs.Faults.{reason_view}
 use Rattle.lexopt_declaration.specs.declared.declaration.Count.{Count}
 use Rattle.lexopt_declaration.specs.declared.declaration.Count.TheVariants as count
 use Rattle.lexopt_declaration.specs.declared.declaration.Declaration.{Declaration}
-use Rattle.lexopt_declaration.specs.declared.declaration.DeclarationError.TheVariants as refusal
+use Rattle.lexopt_runtime_options.specs.declared.faults.DeclarationError.TheVariants as refusal
 use Rattle.lexopt_declaration.specs.declared.declaration.Names.{Names}
 use Rattle.lexopt_declaration.specs.declared.declaration.Names.TheVariants.{Short}
 use Rattle.lexopt_declaration.specs.declared.declaration.Positional.{Positional}
-use Rattle.lexopt_declaration.specs.declared.declaration.Reason.{Reason}
-use Rattle.lexopt_declaration.specs.declared.declaration.Reason.TheVariants as reason
+use Rattle.lexopt_runtime_options.specs.declared.faults.Reason.{Reason}
+use Rattle.lexopt_runtime_options.specs.declared.faults.Reason.TheVariants as reason
 use Rattle.test_option_callers.specs.Printed.{CanBeListed, IsErrorOf, IsErrorWith, IsUsageOf, IsUsageWith, count_of, list_reason, names_line, one_option, printed_text, reason_line, reason_of, repeats, small_tool, two_words}
 
 -- ---- how often each may occur

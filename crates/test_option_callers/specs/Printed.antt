@@ -17,15 +17,15 @@ use Rattle.lexopt_options_spec.specs.Help.{IsUsage, list_text}
 use Rattle.lexopt_declaration.specs.declared.declaration.Count.{Count}
 use Rattle.lexopt_declaration.specs.declared.declaration.Count.TheVariants as count
 use Rattle.lexopt_declaration.specs.Declarations.{declaration_view}
-use Rattle.lexopt_declaration.specs.Faults.{IsDeclarationError}
+use Rattle.lexopt_runtime_options.specs.Faults.{IsDeclarationError}
 use Rattle.lexopt_declaration.specs.Models.{option_view, positional_view}
 use Rattle.lexopt_declaration.specs.declared.declaration.Declaration.{Declaration}
-use Rattle.lexopt_declaration.specs.declared.declaration.DeclarationError.{DeclarationError}
-use Rattle.lexopt_declaration.specs.declared.declaration.DeclarationError.TheVariants as refusal
+use Rattle.lexopt_runtime_options.specs.declared.faults.DeclarationError.{DeclarationError}
+use Rattle.lexopt_runtime_options.specs.declared.faults.DeclarationError.TheVariants as refusal
 use Rattle.lexopt_declaration.specs.declared.declaration.Names.{Names}
 use Rattle.lexopt_declaration.specs.declared.declaration.Names.TheVariants.{Short, Long, Both}
-use Rattle.lexopt_declaration.specs.declared.declaration.Reason.{Reason}
-use Rattle.lexopt_declaration.specs.declared.declaration.Reason.TheVariants as reason
+use Rattle.lexopt_runtime_options.specs.declared.faults.Reason.{Reason}
+use Rattle.lexopt_runtime_options.specs.declared.faults.Reason.TheVariants as reason
 use Rattle.lexopt_options.specs.declared.mistake.Mistake.{Mistake}
 use Rattle.lexopt_options.specs.declared.mistake.Mistake.TheVariants as mistake
 use Rattle.lexopt_options.specs.declared.mistake.OptionName.{OptionName}

@@ -11,9 +11,9 @@ ghost use Rattle.test_option_callers.specs.Texts.{error_line};
 use crate::declared::{Flag, Value, Word};
 use lexopt_commands::CommandError;
 use lexopt_options::{
-    Count, Declaration, DeclarationError, Declared, Mistake, Names, Options, Positional, Reason,
-    Refused, Report, UsageError, Words,
+    Count, Declaration, Declared, Mistake, Names, Positional, Refused, Report, UsageError, Words,
 };
+use lexopt_runtime_options::{DeclarationError, Reason, try_options};
 use std::alloc::{AllocError, Global};
 
 /// Prints the names of an option.
@@ -96,7 +96,7 @@ pub fn fault_of_two(
         short_equals: true,
         guesses: &[],
     };
-    match Options::try_new(&declaration) {
+    match try_options(&declaration) {
         Ok(_) => None,
         Err(
             DeclarationError::Option {
@@ -118,7 +118,7 @@ fn usage_or_error_of<'a>(
         (λ text. IsUsageWith width declaration.now (string_bytes text))
         (λ text. IsErrorWith declaration.now (string_bytes text))) }
 {
-    match Options::try_new(declaration) {
+    match try_options(declaration) {
         Ok(options) => Ok(Ok(options.usage(alloc, width)?)),
         Err(error) => Ok(Err(format!(in alloc; "{error}")?)),
     }

@@ -4,7 +4,8 @@ ghost use Rattle.lexopt_options_spec.specs.Help.{IsHelp};
 ghost use Rattle.test_option_callers.specs.Grouped.{grouped};
 
 use crate::declared::{Flag, Value};
-use lexopt_options::{Combined, Declaration, Group, Names, Options, declare, declare_group};
+use lexopt_options::{Declaration, Group, Names, Options, declare, declare_group};
+use lexopt_runtime_options::Combined;
 use std::alloc::{AllocError, Global};
 
 static LEAD: Declaration<'static, Flag, Value> = declare! {

@@ -4,9 +4,8 @@ use crate::archive::{
     text_of_answer,
 };
 use lexopt_option_table::table_of;
-use lexopt_options::{
-    DeclarationError, Declared, Leading, Line, Names, Options, OsString, Reason, Request, Shell,
-};
+use lexopt_options::{Declared, Leading, Line, Names, OsString, Request, Shell};
+use lexopt_runtime_options::{DeclarationError, Reason, try_options};
 use std::alloc::{AllocError, Global};
 use test_helpers::parsers::words_of;
 
@@ -186,7 +185,7 @@ fn parts_texts_and_table(rt: HostRuntime) {
 fn is_fault(alloc: Global) -> Result<bool, AllocError> {
     let dash = [Declared::flag(Flag::Verbose, Names::Short('-'), "")];
     let (option, reason) = (Names::Short('-'), Reason::DashName);
-    match Options::try_new(&archive(&dash, &[])) {
+    match try_options(&archive(&dash, &[])) {
         Ok(_) => Ok(false),
         Err(error) => Ok(
             error == DeclarationError::Option { option, reason }

@@ -1,8 +1,8 @@
 //! Three hundred options in fifteen groups, each found by its name.
 use lexopt_options::{
-    Combined, Declaration, Declared, Group, Kind, Line, Names, Options, Parsed, declare,
-    declare_group,
+    Declaration, Declared, Group, Kind, Line, Names, Options, Parsed, declare, declare_group,
 };
+use lexopt_runtime_options::Combined;
 use std::alloc::{AllocError, Global};
 use test_helpers::parsers::words_of;
 

@@ -1,8 +1,0 @@
-use Rattle.std.proofs.Common.{rules}
-use Rattle.lexopt_declaration.proofs.declaration.shares_name.Goals as goal
-
-pub returns-then-short : goal.returns-then-short
-returns-then-short g c = search rules
-
-pub returns-else-short : goal.returns-else-short
-returns-else-short g c = search rules

@@ -1,0 +1,3 @@
+pub mod FirstFaults
+pub mod Repeated
+pub mod BadLists

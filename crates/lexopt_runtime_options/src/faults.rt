@@ -1,0 +1,424 @@
+//! Checks declarations that are known only when the program runs.
+ghost use Rattle.std.specs.Prelude.{◌≡◌, ◌==◌, MatchResult, map, option_map, true};
+ghost use Rattle.std.specs.Option.{MatchOption};
+ghost use Rattle.std.specs.List.{list_all, list_any};
+ghost use Rattle.std.specs.Str.{chars};
+ghost use Rattle.lexopt_spec.specs.Pieces.{lossy_characters, replacement};
+ghost use Rattle.lexopt_options_spec.specs.Declaration as spec;
+ghost use Rattle.lexopt_options_spec.specs.Declaration.{are_clear, are_listable, has, is_sound};
+ghost use Rattle.lexopt_declaration.specs.Declarations.{declaration_view};
+ghost use Rattle.lexopt_declaration.specs.Models.{arity_kind, arity_placeholder, option_view};
+ghost use Rattle.lexopt_declaration.specs.Models.{positional_view, words_view};
+ghost use Rattle.lexopt_options.specs.Declarations.{declaration_of, options_of, positionals_of};
+ghost use Rattle.lexopt_runtime_options.specs.Faults.{IsDeclarationError, IsListError};
+ghost use Rattle.lexopt_runtime_options.specs.Faults.{IsOptionError, IsPositionalError, reason_view};
+
+use lexopt_declaration::declaration::{
+    Arity, Declaration, Declared, Names, Positional, Words, are_text,
+};
+use lexopt_declaration::message::Escaped;
+use lexopt_declaration::positionals::may_repeat;
+use lexopt_options::Options;
+use std::fmt;
+
+/// Why an option cannot be declared. `Display` writes it, such as `its name is empty`. The `Reason`
+/// of `lexopt_commands` is about the names of commands.
+#[derive(Debug, Clone, Copy, PartialEq, Eq)]
+pub enum Reason {
+    /// Its character is `-`: the word `--` is the separator, and `--name` is a long option.
+    DashName,
+    /// Its name is empty.
+    EmptyName,
+    /// Its name has `=` in it: the word `--a=b` is the option `a` with a value.
+    EqualsInName,
+    /// Its character is U+FFFD, or its name has it. U+FFFD represents damage in what was typed.
+    ReplacementInName,
+    /// Its character is a blank or a control character of ASCII, or its name has one. A shell
+    /// separates words at blanks, and a terminal acts on control characters.
+    BlankOrControlInName,
+    /// The placeholder of its value is empty, or begins with `-` or `=`. A form that the help shows
+    /// could then be illegal, or mean another value.
+    BadPlaceholder,
+    /// The list of its values is empty, or one of them is empty, begins with `-` or `=`, or has a
+    /// blank or a control character of ASCII in it.
+    BadList,
+    /// An option before it has the same character or name.
+    SameName,
+}
+
+/// What cannot be declared. `Display` and `Debug` write it on one line:
+///
+/// ```text
+/// option '--output': an option before it has one of its names
+/// positional argument FILE: one before it may occur more than once too
+/// ```
+#[derive(Clone, Copy, PartialEq, Eq)]
+pub enum DeclarationError<'a> {
+    /// An option that cannot be declared after those before it.
+    Option {
+        /// The names of the option.
+        option: Names<'a>,
+        /// The reason.
+        reason: Reason,
+    },
+    /// The second positional that may occur more than once: its placeholder.
+    Positional(&'a str),
+    /// A positional whose list is empty, or has a word that is empty, begins with `-` or `=`, or
+    /// has a blank or a control character of ASCII in it: its placeholder.
+    BadList(&'a str),
+}
+
+impl fmt::Display for Reason {
+    ghost use Rattle.std.specs.Prelude.{Some};
+    ghost use Rattle.lexopt_runtime_options.specs.Texts.{reason_text};
+
+    ghost output = { λ reason. Some (reason_text reason) };
+
+    fn fmt<W: fmt::Write>(&self, f: &mut fmt::Formatter<W>) -> fmt::Result {
+        match self {
+            Reason::DashName => f.write_str("its character is '-'"),
+            Reason::EmptyName => f.write_str("its name is empty"),
+            Reason::EqualsInName => f.write_str("its name has '=' in it"),
+            Reason::ReplacementInName => f.write_str("its name has U+FFFD in it"),
+            Reason::BlankOrControlInName => {
+                f.write_str("its name has a blank or a control character in it")
+            }
+            Reason::BadPlaceholder => {
+                f.write_str("its placeholder is empty or begins with '-' or '='")
+            }
+            Reason::BadList => f.write_str(
+                "the list of its values is empty, or one of them is empty, begins with '-' or '=', \
+                 or has a blank or a control character in it",
+            ),
+            Reason::SameName => f.write_str("an option before it has one of its names"),
+        }
+    }
+}
+
+impl fmt::Display for DeclarationError<'_> {
+    ghost use Rattle.std.specs.Prelude.{Some};
+    ghost use Rattle.lexopt_runtime_options.specs.Texts.{declaration_error_text};
+
+    ghost output = { λ error. Some (declaration_error_text error) };
+
+    fn fmt<W: fmt::Write>(&self, f: &mut fmt::Formatter<W>) -> fmt::Result {
+        match self {
+            DeclarationError::Option { option, reason } => {
+                write!(f, "option '{option}': {reason}")
+            }
+            DeclarationError::Positional(placeholder) => {
+                let placeholder = Escaped(placeholder);
+                write!(
+                    f,
+                    "positional argument {placeholder}: one before it may occur more than once too"
+                )
+            }
+            DeclarationError::BadList(placeholder) => {
+                let placeholder = Escaped(placeholder);
+                write!(f, "positional argument {placeholder}: {}", Reason::BadList)
+            }
+        }
+    }
+}
+
+impl fmt::Debug for DeclarationError<'_> {
+    ghost use Rattle.std.specs.Prelude.{Some};
+    ghost use Rattle.lexopt_runtime_options.specs.Texts.{declaration_error_text};
+
+    ghost debug_output = { λ error. Some (declaration_error_text error) };
+
+    fn fmt<W: fmt::Write>(&self, f: &mut fmt::Formatter<W>) -> fmt::Result {
+        fmt::Display::fmt(self, f)
+    }
+}
+
+impl std::error::Error for DeclarationError<'_> {}
+
+// Whether a name has U+FFFD in it. It is separate from `has_replacement` for the proof: its
+// contract is by the characters of the name, and not by those of its lossy text.
+fn any_replacement(name: &str) -> bool
+    ensures { result ≡ list_any (λ c. c == replacement) (chars name.now) }
+{
+    name.chars().any(|character| character == '\u{FFFD}')
+}
+
+// Whether a name has U+FFFD in it.
+fn has_replacement(name: &str) -> bool
+    ensures { result ≡ has replacement (lossy_characters name.now) }
+{
+    any_replacement(name)
+}
+
+// Whether a byte is a blank or a control character of ASCII.
+fn is_blank_or_control(byte: u8) -> bool
+    ensures { result ≡ spec.is_blank_or_control byte }
+{
+    byte < b'!' || byte == 0x7F
+}
+
+// Whether a name has a blank or a control character of ASCII in it.
+fn has_blank_or_control(name: &str) -> bool
+    ensures { result ≡ list_any spec.is_blank_or_control name.now }
+{
+    name.as_bytes()
+        .iter()
+        .any(|byte| is_blank_or_control(*byte))
+}
+
+// What is wrong with the character of an option.
+fn short_fault(name: Option<char>) -> Option<Reason>
+    ensures { option_map reason_view result ≡ spec.short_fault name }
+{
+    match name {
+        Some('-') => Some(Reason::DashName),
+        Some('\u{FFFD}') => Some(Reason::ReplacementInName),
+        Some('\0'..=' ' | '\x7F') => Some(Reason::BlankOrControlInName),
+        Some(_) | None => None,
+    }
+}
+
+// What is wrong with a name.
+fn name_fault(name: &str) -> Option<Reason>
+    ensures { option_map reason_view result ≡ spec.long_fault (Some name.now) }
+{
+    if name.is_empty() {
+        Some(Reason::EmptyName)
+    } else if name.as_bytes().contains(&b'=') {
+        Some(Reason::EqualsInName)
+    } else if has_replacement(name) {
+        Some(Reason::ReplacementInName)
+    } else if has_blank_or_control(name) {
+        Some(Reason::BlankOrControlInName)
+    } else {
+        None
+    }
+}
+
+// What is wrong with the name of an option, if it has one.
+fn long_fault(name: Option<&str>) -> Option<Reason>
+    ensures { option_map reason_view result ≡ spec.long_fault (option_map (λ n. n.now) name.entry) }
+{
+    match name {
+        Some(name) => name_fault(name),
+        None => None,
+    }
+}
+
+// What is wrong with the placeholder of a value.
+fn placeholder_fault(arity: Arity<'_>) -> Option<Reason>
+    ensures { option_map reason_view result
+        ≡ spec.placeholder_fault (arity_kind arity.entry) (arity_placeholder arity.entry) }
+{
+    let placeholder = match arity {
+        Arity::Zero => return None,
+        Arity::One(placeholder) | Arity::Optional(placeholder) | Arity::Several(placeholder) => {
+            placeholder.as_bytes()
+        }
+    };
+    match placeholder {
+        [] | [b'-' | b'=', ..] => Some(Reason::BadPlaceholder),
+        _ => None,
+    }
+}
+
+// Whether this can be in a list.
+fn is_listable(value: &str) -> bool
+    ensures { result ≡ spec.is_listable value.now }
+{
+    match value.as_bytes() {
+        [] | [b'-' | b'=', ..] => false,
+        _ => !has_blank_or_control(value),
+    }
+}
+
+// Whether each of these can be in a list.
+fn are_listable(values: &[&str]) -> bool
+    ensures { result ≡ list_all (λ value. spec.is_listable value.now) values.now }
+{
+    values.iter().all(|value| is_listable(value))
+}
+
+// What is wrong with a list, if there is one.
+fn list_fault(words: Words<'_>) -> Option<Reason>
+    ensures { option_map reason_view result ≡ spec.list_fault (words_view words.entry) }
+{
+    match words {
+        Words::Files | Words::Directories | Words::Text => None,
+        Words::Listed(values) => {
+            if values.is_empty() {
+                return Some(Reason::BadList);
+            }
+            if are_listable(values) {
+                None
+            } else {
+                Some(Reason::BadList)
+            }
+        }
+    }
+}
+
+// Whether two options have a name in common.
+fn shares_name<F, V, M, S>(
+    option: &Declared<'_, F, V, M, S>,
+    other: &Declared<'_, F, V, M, S>,
+) -> bool
+    ensures { result ≡ spec.shares_name (option_view option.now) (option_view other.now) }
+{
+    let short = match option.names.short() {
+        Some(character) => other.names.is_short(character),
+        None => false,
+    };
+    let long = match option.names.long() {
+        Some(name) => other.names.is_long(name),
+        None => false,
+    };
+    short || long
+}
+
+// Whether an option has a name in common with one of these.
+fn any_shares_name<F, V, M, S>(
+    option: &Declared<'_, F, V, M, S>,
+    others: &[Declared<'_, F, V, M, S>],
+) -> bool
+    ensures { result
+        ≡ list_any (λ o. spec.shares_name (option_view option.now) (option_view o)) others.now }
+{
+    others.iter().any(|other| shares_name(option, other))
+}
+
+// What is wrong with an option after these options.
+fn fault<F, V, M, S>(
+    before: &[Declared<'_, F, V, M, S>],
+    option: &Declared<'_, F, V, M, S>,
+) -> Option<Reason>
+    ensures { option_map reason_view result
+        ≡ spec.fault (map option_view before.now) (option_view option.now) }
+{
+    if let Some(reason) = short_fault(option.names.short()) {
+        return Some(reason);
+    }
+    if let Some(reason) = long_fault(option.names.long()) {
+        return Some(reason);
+    }
+    if let Some(reason) = placeholder_fault(option.kind.arity()) {
+        return Some(reason);
+    }
+    if let Some(reason) = list_fault(option.words) {
+        return Some(reason);
+    }
+    if any_shares_name(option, before) {
+        return Some(Reason::SameName);
+    }
+    None
+}
+
+// The names of the first option that cannot be declared after those before it, and the reason.
+fn first_fault<'a, F, V, M, S>(
+    options: &'a [Declared<'a, F, V, M, S>],
+) -> Option<(Names<'a>, Reason)>
+    ensures { MatchOption result (is_sound (map option_view options.now) ≡ true)
+        (λ fault. IsOptionError options.now fault.0 fault.1) }
+{
+    for (index, option) in options.iter().enumerate() {
+        if let Some(reason) = fault(&options[..index], option) {
+            return Some((option.names, reason));
+        }
+    }
+    None
+}
+
+// The placeholder of the second positional that may occur more than once.
+fn second_repeated<'a, P>(positionals: &'a [Positional<'a, P>]) -> Option<&'a str>
+    ensures { MatchOption result (are_clear (map positional_view positionals.now) ≡ true)
+        (IsPositionalError positionals.now) }
+{
+    let mut repeated = false;
+    for positional in positionals {
+        if may_repeat(positional) {
+            if repeated {
+                return Some(positional.placeholder);
+            }
+            repeated = true;
+        }
+    }
+    None
+}
+
+// The placeholder of the first positional whose list cannot be declared.
+fn first_bad_list<'a, P>(positionals: &'a [Positional<'a, P>]) -> Option<&'a str>
+    ensures { MatchOption result (are_listable (map positional_view positionals.now) ≡ true)
+        (IsListError positionals.now) }
+{
+    for argument in positionals {
+        if list_fault(argument.words).is_some() {
+            return Some(argument.placeholder);
+        }
+    }
+    None
+}
+
+// The first fault of a declaration: the first option that cannot be declared after those before it;
+// otherwise the second positional that may occur more than once; otherwise the first positional
+// whose list cannot be declared.
+fn declaration_fault<'a, F, V, P, M, S>(
+    declaration: &'a Declaration<'a, F, V, P, M, S>,
+) -> Option<DeclarationError<'a>>
+    ensures { MatchOption result
+        ((is_sound (map option_view declaration.now.options.now) ≡ true)
+        × (are_clear (map positional_view declaration.now.positionals.now) ≡ true)
+        × (are_listable (map positional_view declaration.now.positionals.now) ≡ true))
+        (IsDeclarationError declaration.now) }
+{
+    if let Some((option, reason)) = first_fault(declaration.options) {
+        return Some(DeclarationError::Option { option, reason });
+    }
+    if let Some(placeholder) = second_repeated(declaration.positionals) {
+        return Some(DeclarationError::Positional(placeholder));
+    }
+    match first_bad_list(declaration.positionals) {
+        Some(placeholder) => Some(DeclarationError::BadList(placeholder)),
+        None => None,
+    }
+}
+
+/// Returns the options of a declaration that is known only when the program runs.
+///
+/// `Options::new` takes one that is known when the program is built, and cannot fail.
+///
+/// # Errors
+///
+/// The error is the first of these that applies:
+///
+/// - [`DeclarationError::Option`] has the names of the first option that cannot be declared after
+///   those before it, and the reason.
+/// - [`DeclarationError::Positional`] has the placeholder of the second positional that may occur
+///   more than once.
+/// - [`DeclarationError::BadList`] has the placeholder of the first positional whose list of words
+///   cannot be declared.
+///
+/// # Examples
+///
+/// ```rust
+/// match try_options(&DECLARATION) {
+///     Ok(options) => rt.print(options.help(alloc, WIDTH)?)?,
+///     // If two options have the name `output`, this prints:
+///     // pack: option '--output': an option before it has one of its names
+///     Err(error) => eprintln!(rt; "pack: {error}")?,
+/// }
+/// ```
+#[tactic(auto, using(lexopt_options_spec::proofs::Declarable::sound_declarable))]
+pub fn try_options<'a, F, V, P, M, S>(
+    declaration: &'a Declaration<'a, F, V, P, M, S>,
+) -> Result<Options<'a, F, V, P, M, S>, DeclarationError<'a>>
+    ensures { MatchResult result
+        (λ options. (declaration_of options ≡ declaration_view declaration.now)
+        × (options_of options ≡ declaration.now.options.now)
+        × (positionals_of options ≡ declaration.now.positionals.now))
+        (IsDeclarationError declaration.now) }
+{
+    if let Some(error) = declaration_fault(declaration) {
+        return Err(error);
+    }
+    are_text(declaration.options);
+    Ok(Options::new(declaration))
+}
