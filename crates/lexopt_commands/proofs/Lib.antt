@@ -2,3 +2,4 @@ pub mod FirstFaults
 pub mod Found
 pub mod Entries
 pub mod LinesRead
+pub mod LeadingRead

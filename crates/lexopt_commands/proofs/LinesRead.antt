@@ -5,13 +5,13 @@ use Rattle.lexopt_options_spec.specs.Asking.{first_asked}
 use Rattle.lexopt_options_spec.specs.Declaration as spec
 use Rattle.lexopt_options_spec.specs.Leading.{MeansLeading}
 use Rattle.lexopt_options_spec.specs.Legal as legal
-use Rattle.lexopt_options.specs.declared.leading.Leading.{Leading}
+use Rattle.lexopt_commands.specs.declared.leading.Leading.{Leading}
 use Rattle.lexopt_options.specs.declared.mistake.Mistake.{Mistake}
 use Rattle.lexopt_options.specs.declared.options.Options.{Options}
 use Rattle.lexopt_options.specs.declared.parsed.Parsed.{Parsed}
 use Rattle.lexopt_options.specs.Declarations.{declaration_of, options_of}
 use Rattle.lexopt_options.specs.Keys.{AreParsedAs, asked_view}
-use Rattle.lexopt_options.specs.LeadingLines.{IsLeadingOf}
+use Rattle.lexopt_commands.specs.LeadingLines.{IsLeadingOf}
 use Rattle.lexopt_commands.specs.declared.commands.Commands.{Commands}
 use Rattle.lexopt_commands.specs.declared.read.CommandLine.{CommandLine}
 use Rattle.lexopt_commands.specs.declared.read.CommandLine.TheVariants as line

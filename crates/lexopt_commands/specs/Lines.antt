@@ -13,7 +13,7 @@ use Rattle.lexopt_options.specs.declared.parsed.Parsed.{Parsed}
 use Rattle.lexopt_options.specs.declared.refused.Refused.{Refused}
 use Rattle.lexopt_options.specs.Declarations.{declaration_of, options_of}
 use Rattle.lexopt_options.specs.Keys.{AreParsedAs, asked_view}
-use Rattle.lexopt_options.specs.LeadingLines.{IsLeadingRefused}
+use Rattle.lexopt_commands.specs.LeadingLines.{IsLeadingRefused}
 use Rattle.lexopt_commands.specs.declared.commands.Commands.{Commands}
 use Rattle.lexopt_commands.specs.declared.read.CommandLine.{CommandLine}
 use Rattle.lexopt_commands.specs.declared.read.CommandLine.TheVariants as line

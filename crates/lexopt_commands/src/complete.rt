@@ -9,9 +9,10 @@ use crate::answer::Step;
 use crate::call::Call;
 use crate::command::{Command, Runs};
 use crate::commands::Commands;
+use crate::leading::{LeadingCompletion, complete_leading};
 use crate::read::{command_of, take_first};
 use lexopt_declaration::message::push_help;
-use lexopt_options::{LeadingCompletion, Request};
+use lexopt_options::Request;
 use lexopt_words::os_string::OsString;
 use std::alloc::{AllocError, Global};
 
@@ -156,7 +157,7 @@ impl<'a, C: Copy, F: Copy, V: Copy, M: Copy, S: Copy> Commands<'a, C, F, V, M, S
     ) -> Result<Step<'a, C, F, V, M, S>, AllocError>
         ensures { IfOk result (λ step. IsCompletionStep self.now words.items typed step) }
     {
-        match self.options().complete_leading(alloc, words, &typed)? {
+        match complete_leading(alloc, &self.options(), words, &typed)? {
             LeadingCompletion::Rest(rest) => self.placed_step(alloc, rest, typed),
             LeadingCompletion::Text {
                 text,

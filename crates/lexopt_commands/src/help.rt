@@ -1,6 +1,6 @@
 //! The help of a program with commands. The file of this name in `lexopt_declaration` has the help
 //! of declared options.
-ghost use Rattle.std.specs.Prelude.{◌≡◌, ◌++◌, ℕ, IfOk, List, string_bytes};
+ghost use Rattle.std.specs.Prelude.{◌≡◌, ℕ, IfOk, List, string_bytes};
 ghost use Rattle.std.specs.List.{AllZip, concat};
 ghost use Rattle.lexopt_options_spec.specs.Help.{IsEntry, IsUsage};
 ghost use Rattle.lexopt_declaration.specs.Models.{count_view, positional_view};
@@ -67,7 +67,6 @@ fn usage_of<F, V, M, S>(
         ],
         epilogue: options.epilogue(),
         short_equals: options.has_short_equals(),
-        guesses: &[],
     };
     usage(alloc, &declaration, width)
 }

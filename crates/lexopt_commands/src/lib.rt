@@ -177,6 +177,8 @@
 //! - [`Commands::answer`] reads words of the program's own, as a test does; [`Commands::read`]
 //!   returns the request for the help, and the mistake, as values; and [`Commands::help`] and
 //!   [`Commands::usage`] return the help and its usage line.
+//! - [`read_leading`] is for a line that goes on with the words of another program, as that of
+//!   `env` does.
 //!
 //! A shell completes the lines of `notes` after `source <(_NOTES_COMPLETE=bash_source notes)` in
 //! the start-up file of bash; `lexopt_options` has the lines for zsh and fish.
@@ -195,12 +197,14 @@ mod complete;
 mod declare;
 mod examples;
 pub mod help;
+pub mod leading;
 pub mod read;
 
 pub use answer::Step;
 pub use call::Call;
 pub use command::{Command, CommandError, Reason, Runs};
 pub use commands::Commands;
+pub use leading::{Leading, LeadingCompletion, complete_leading, read_leading};
 pub use read::CommandLine;
 
 // What else a program that declares commands needs.

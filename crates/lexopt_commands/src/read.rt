@@ -12,9 +12,10 @@ ghost use Rattle.lexopt_commands.specs.Views.{meaning_view};
 
 use crate::command::{Command, Runs, is_named};
 use crate::commands::Commands;
+use crate::leading::{Leading, read_leading};
 use lexopt_declaration::lookup::help_names_of;
 use lexopt_declaration::nearest::hinted_names;
-use lexopt_options::{Asked, Leading, Mistake, Parsed, Refused};
+use lexopt_options::{Asked, Mistake, Parsed, Refused};
 use lexopt_words::codepoint::lossy_text;
 use lexopt_words::os_string::OsString;
 use std::alloc::{AllocError, Global};
@@ -267,7 +268,7 @@ impl<'a, C: Copy, F: Copy, V: Copy, M: Copy, S: Copy> Commands<'a, C, F, V, M, S
     /// Reads a line up to the name of a command.
     ///
     /// The words are without the name of the program. This call consumes them. The general options
-    /// come first, as `Options::read_leading` reads them. The word after them is the name of a
+    /// come first, as [`read_leading`] reads them. The word after them is the name of a
     /// command. All other words are for that command, and are not read.
     ///
     /// After a name that asks for the help ([`Runs::Help`]), such as `help`, the next word is the
@@ -324,7 +325,7 @@ impl<'a, C: Copy, F: Copy, V: Copy, M: Copy, S: Copy> Commands<'a, C, F, V, M, S
             → first_asked (declaration_of self.now.options).options l ≡ None
             → IfOk result (λ line. IsCommandLine self.now l own.name.now key rest line) }
     {
-        match self.options().read_leading(alloc, words)? {
+        match read_leading(alloc, &self.options(), words)? {
             Leading::Parsed(parsed, rest) => self.end(alloc, parsed, rest),
             Leading::Asked(asked) => Ok(CommandLine::Asked(asked)),
             Leading::Refused(refused) => Ok(CommandLine::Refused(refused)),

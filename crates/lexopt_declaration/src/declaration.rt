@@ -738,10 +738,6 @@ pub struct Declaration<'a, F, V = Infallible, P = Infallible, M = Infallible, S 
     pub epilogue: &'a [&'a str],
     /// Whether `=` in a cluster separates an option from its value, as in `-o=file`.
     pub short_equals: bool,
-    /// For each hash of a long name, the index of an option that may have the name. It only makes
-    /// look-ups faster: what it holds changes no result. `declare!` leaves it empty, and then each
-    /// look-up goes through the options in turn. `Combined` of `lexopt_runtime_options` fills it.
-    pub guesses: &'a [u16],
 }
 
 impl<F, V, P, M, S> Clone for Declaration<'_, F, V, P, M, S> {

@@ -9,7 +9,7 @@ use std::fmt;
 
 /// The values in a list. `Display` writes them with a comma and a blank between them, and escapes
 /// each character that a terminal may act on.
-#[derive(Debug, Clone, Copy)]
+#[derive(Clone, Copy)]
 pub struct Listed<'a>(pub &'a [&'a str]);
 
 impl fmt::Display for Listed<'_> {

@@ -24,7 +24,7 @@ fn write_characters<W: fmt::Write>(text: &str, f: &mut fmt::Formatter<W>) -> fmt
 
 /// A name or a placeholder, as messages show it. `Display` escapes each character that a terminal
 /// may act on, as `Visible` of `lexopt_words` does, and writes any other as it is.
-#[derive(Debug, Clone, Copy)]
+#[derive(Clone, Copy)]
 pub struct Escaped<'a>(pub &'a str);
 
 impl fmt::Display for Escaped<'_> {

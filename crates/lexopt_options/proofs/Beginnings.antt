@@ -3,9 +3,9 @@ use Rattle.std.proofs.Common.{◌≡◌, ◌↔◌, ◌≤◌, ℕ, Bool, IsTrue
 use Rattle.std.specs.Bool.{MatchBool}
 use Rattle.std.proofs.lemmas.Bool.{false≢true}
 use Rattle.std.specs.declared.convert.Infallible.{Infallible}
-use Rattle.lexopt_spec.specs.UnreadLine.{IsNormalIn, IsPlain, UnreadLine}
+use Rattle.lexopt_spec.specs.UnreadLine.{IsNormalIn, IsPlain, UnreadLine, pending, pending_in}
 use Rattle.lexopt_spec.specs.Steps as steps
-use Rattle.lexopt_spec.specs.Steps.{Next}
+use Rattle.lexopt_spec.specs.Steps.{Next, NextStep}
 use Rattle.lexopt_line_spec.specs.Readings.{option_reply, start}
 use Rattle.lexopt_line_spec.specs.Table as table
 use Rattle.lexopt_line_spec.specs.Table.{Name}
@@ -18,8 +18,9 @@ use Rattle.lexopt_options_spec.specs.Leading.{IsOfOption, IsSplit, MeansLeading}
 use Rattle.lexopt_options_spec.specs.Legal.{IsWithin, Parsed, are_accepted, most, occurs, positional_count}
 use Rattle.lexopt_options_spec.specs.States.{is_further, state_at_end}
 use Rattle.lexopt_options_spec.specs.Stops.{Mistake, Stops, missing_value, not_declared, unexpected_value, unknown_option, value_of_flag}
+use Rattle.lexopt_options_spec.proofs.Cuts.{enough}
 use Rattle.lexopt_options_spec.proofs.FirstWords.{further_never, without_word, word_follows}
-use Rattle.lexopt_options_spec.proofs.LeadingOptions.{leading_front, leading_whole}
+use Rattle.lexopt_options_spec.proofs.LeadingOptions.{leading_front, leading_whole, word_read}
 use Rattle.lexopt_options_spec.proofs.LeadingStops.{option_stops}
 use Rattle.lexopt_options_spec.proofs.OneLeading.{one_leading}
 use Rattle.lexopt_options_spec.proofs.Reached.{surplus_nowhere, undeclared_nowhere, unexpected_nowhere, value_stops, values_nowhere, values_stop}
@@ -32,8 +33,11 @@ use Rattle.lexopt_options.specs.declared.front.Front.{Front}
 use Rattle.lexopt_options.specs.declared.front.State.{State}
 use Rattle.lexopt_options.specs.declared.front.State.TheVariants as state
 use Rattle.lexopt_options.proofs.Fronts.{HasReached, counted, front_at_end, front_lacking}
-use Rattle.lexopt_options.proofs.LeadingRead.{nothing_pending}
 use Rattle.lexopt_options.proofs.ReadNext.{kind_of_index}
+
+-- after a positional no value is pending
+pub nothing_pending : (u w : UnreadLine) (word : List ℕ) → Next u (steps.positional word) w → pending w ≡ None
+nothing_pending u w word next = ap (pending_in w.short_equals) (word_read u w word (enough NextStep u (steps.positional word) w next (λ is. cc))).none
 
 -- ---- what the options are
 

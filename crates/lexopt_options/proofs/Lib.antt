@@ -3,7 +3,6 @@ pub mod ReadNext
 pub mod Keys
 pub mod ReadKeys
 pub mod WholeLines
-pub mod LeadingRead
 pub mod Asking
 pub mod Owners
 pub mod TakenWords
@@ -14,5 +13,4 @@ pub mod Seen
 pub mod Accepted
 pub mod Given
 pub mod KeysGiven
-pub mod Guessed
 pub mod Looked

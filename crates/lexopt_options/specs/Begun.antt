@@ -1,21 +1,15 @@
--- Which words come after leading options, or else what can come there, as contracts see it. The
--- source is `docs/behaviour.md`.
-use Rattle.std.specs.Prelude.{◌≡◌, ◌≢◌, ◌++◌, ◌∷◌, ℕ, Bool, false, List, [], None, string_bytes}
+-- What words mean as the beginning of a line, and whether a word can come after leading options, as
+-- contracts see it. The source is `docs/behaviour.md`.
+use Rattle.std.specs.Prelude.{◌≡◌, ◌≢◌, ◌++◌, ◌∷◌, ℕ, Bool, false, List, [], None}
 use Rattle.std.specs.Bool.{MatchBool}
-use Rattle.std.specs.declared.convert.Infallible.{Infallible}
 use Rattle.lexopt_spec.specs.UnreadLine.{IsPlain, UnreadLine, pending}
 use Rattle.lexopt_options_spec.specs.Asking.{first_asked}
 use Rattle.lexopt_options_spec.specs.Declaration.{Declaration}
 use Rattle.lexopt_options_spec.specs.Leading.{MeansLeading}
 use Rattle.lexopt_options_spec.specs.Legal.{Parsed}
 use Rattle.lexopt_options_spec.specs.States.{LeadsNowhere}
-use Rattle.lexopt_options.specs.declared.begun.LeadingCompletion.{LeadingCompletion}
-use Rattle.lexopt_options.specs.declared.begun.LeadingCompletion.TheVariants as found
 use Rattle.lexopt_options.specs.declared.front.Begun.{Begun}
 use Rattle.lexopt_options.specs.declared.front.Begun.TheVariants as begun
-use Rattle.lexopt_options.specs.declared.options.Options.{Options}
-use Rattle.lexopt_options.specs.Answers.{IsCompletionText}
-use Rattle.lexopt_options.specs.Declarations.{declaration_of}
 use Rattle.lexopt_options.specs.States.{IsFrontOf}
 
 -- these words are leading options that ask for nothing, and this word is the first after them
@@ -54,11 +48,3 @@ IsBegun d words (begun.Rest word) u = LeadsNowhere d words × (pending u ≡ Non
     × (d.positionals ≡ [] → HaveRest d words (word ∷ u.words))
 IsBegun d words (begun.Front front can) u = IsFrontOf d words front
     × (d.positionals ≡ [] → HaveNoRest d words × TellsFirst d words can)
-
--- this rest comes after leading options; or none does, and this is the text of what can come where
--- this is typed, and whether a word can come first
-abbrev pub IsLeadingCompletion : {F V M S : Type 0} → Options F V Infallible M S → List (List ℕ)
-    → List ℕ → LeadingCompletion → Type 0
-IsLeadingCompletion o words typed (found.Rest rest) = HaveRest (declaration_of o) words rest.items
-IsLeadingCompletion o words typed (found.Text text can) = HaveNoRest (declaration_of o) words
-    × IsCompletionText o words typed (string_bytes text) × TellsFirst (declaration_of o) words can

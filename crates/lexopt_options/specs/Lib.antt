@@ -6,7 +6,6 @@ pub mod Taken
 pub mod Messages
 pub mod Mistakes
 pub mod Lines
-pub mod LeadingLines
 pub mod States
 pub mod Begun
 pub mod Names

@@ -256,7 +256,7 @@ pub fn columns<R: Env>(rt: &R) -> usize {
 }
 
 impl<F, V, P, M, S> Options<'_, F, V, P, M, S> {
-    ghost use Rattle.std.specs.Prelude.{◌≡◌, ℕ, IfOk, List, map, string_bytes};
+    ghost use Rattle.std.specs.Prelude.{◌≡◌, ℕ, IfOk, List, string_bytes};
     ghost use Rattle.lexopt_options.specs.Answers.{IsAskedText, IsCompletionText, script_lines};
     ghost use Rattle.lexopt_options.specs.Declarations.{declaration_of};
     ghost use Rattle.lexopt_options.specs.Keys.{asked_view};
@@ -306,8 +306,13 @@ impl<F, V, P, M, S> Options<'_, F, V, P, M, S> {
         self.completion_text_after(alloc, &front, typed)
     }
 
-    // The text of `completion_text` where `typed` is typed after words that mean this.
-    pub(crate) fn completion_text_after(
+    /// Returns the text of [`Options::completion_text`] where `typed` is typed after words that mean
+    /// this. It is for `lexopt_commands`.
+    ///
+    /// # Errors
+    ///
+    /// Returns `AllocError` if an allocation fails.
+    pub fn completion_text_after(
         &self,
         alloc: Global,
         front: &Option<Front>,

@@ -108,7 +108,6 @@ macro_rules! declare {
             }),*)?],
             epilogue: &[$($($paragraph),*)?],
             short_equals: true $(&& $short_equals)?,
-            guesses: &[],
         }
     };
     (@flag($key:expr, $names:expr, $help:expr $(,)?) $($mark:tt)*) => {

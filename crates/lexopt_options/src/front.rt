@@ -24,46 +24,46 @@ use lexopt_declaration::declaration::{Declared, Kind};
 use lexopt_words::os_string::OsString;
 use std::alloc::{AllocError, Global};
 
-// What the next word of a line is.
+/// What the next word of a line is.
 #[derive(Clone, Copy)]
 pub enum State {
-    // An option, the separator or a positional.
+    /// An option, the separator or a positional.
     Anything,
-    // The value of the option at this index, whatever it looks like.
+    /// The value of the option at this index, whatever it looks like.
     Due(usize),
-    // The first of several values of the option at this index: a plain word.
+    /// The first of several values of the option at this index: a plain word.
     First(usize),
-    // One more of several values of the option at this index if it is plain; otherwise an option or
-    // the separator.
+    /// One more of several values of the option at this index if it is plain; otherwise an option
+    /// or the separator.
     Further(usize),
-    // A positional, whatever it looks like.
+    /// A positional, whatever it looks like.
     Ended,
 }
 
-// What words mean as the beginning of a line.
+/// What words mean as the beginning of a line.
 #[derive(Drop)]
 pub struct Front {
-    // The positionals.
+    /// The positionals.
     pub words: Vec<OsString>,
-    // Whether each option accepts its values.
+    /// Whether each option accepts its values.
     pub accepted: bool,
-    // If what is read last is an option that has a value: its index, and its first value.
+    /// If what is read last is an option that has a value: its index, and its first value.
     pub last: Option<(usize, OsString)>,
-    // What the next word is.
+    /// What the next word is.
     pub state: State,
 }
 
-// What words mean, as the beginning of a line and as leading options.
+/// What words mean, as the beginning of a line and as leading options.
 #[derive(Drop)]
-pub(crate) enum Begun {
-    // This word, which was read last, is one positional too many. So they mean nothing as the
-    // beginning of a line, and nothing with any one word after them. If no positionals are
-    // declared, it is the first word after legal leading options that ask for nothing.
+pub enum Begun {
+    /// This word, which was read last, is one positional too many. So they mean nothing as the
+    /// beginning of a line, and nothing with any one word after them. If no positionals are
+    /// declared, it is the first word after legal leading options that ask for nothing.
     Rest(OsString),
-    // This is what they mean as the beginning of a line; `None` if they mean nothing, and nothing
-    // with any one word after them. If no positionals are declared, no word comes after legal
-    // leading options that ask for nothing, and this is whether a plain word that comes right after
-    // the words would be the first.
+    /// This is what they mean as the beginning of a line; `None` if they mean nothing, and nothing
+    /// with any one word after them. If no positionals are declared, no word comes after legal
+    /// leading options that ask for nothing, and this is whether a plain word that comes right
+    /// after the words would be the first.
     Front(Option<Front>, bool),
 }
 
@@ -262,8 +262,13 @@ fn can_end<F, V, P, M, S>(
     are_legal(options, seen, accepted, unasked)
 }
 
-// Reads words as the beginning of a line, up to one positional too many.
-pub(crate) fn read_front<F, V, P, M, S>(
+/// Reads words as the beginning of a line, up to one positional too many. The line is that of
+/// `Options::parser_of`.
+///
+/// # Errors
+///
+/// Returns `AllocError` if an allocation fails.
+pub fn read_front<F, V, P, M, S>(
     alloc: Global,
     parser: &mut Parser,
     options: &Options<'_, F, V, P, M, S>,

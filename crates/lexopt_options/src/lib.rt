@@ -186,8 +186,8 @@
 //! - [`Options::answer`] reads words of the program's own, as a test does, and [`Options::read`]
 //!   returns the request for the help, and the mistake, as values. [`Options::help`] and
 //!   [`Options::usage`] return texts; [`columns`] is the width for them.
-//! - [`Options::read_leading`] is for a line that goes on with the words of another program, as
-//!   that of `env` does. A program with commands names `lexopt_commands` too.
+//! - A program with commands names `lexopt_commands` too, and so does one whose line goes on with
+//!   the words of another program, as that of `env` does.
 //!
 //! # Completion in a shell
 //!
@@ -214,26 +214,22 @@
 #![tactic(auto)]
 
 pub mod answer;
-pub mod begun;
 pub mod complete;
 mod declare;
-mod front;
-pub mod leading;
+pub mod front;
 mod listed;
 pub mod mistake;
 pub mod options;
 pub mod parsed;
 mod places;
-mod read;
+pub mod read;
 pub mod refused;
 pub mod request;
 mod taken;
 pub mod usage;
 
 pub use answer::{Answer, columns};
-pub use begun::LeadingCompletion;
 pub use complete::{Completion, Joined, Role};
-pub use leading::Leading;
 pub use mistake::{Mistake, OptionName};
 pub use options::Options;
 pub use parsed::{Asked, Parsed};

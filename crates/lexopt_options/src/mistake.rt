@@ -108,7 +108,7 @@ pub enum Mistake<'a> {
     },
     /// A required option is missing: the names of the first that is, in the order of the
     /// declaration. In a whole line, no positional is missing then, and each accepts its words;
-    /// [`Options::read_leading`](crate::Options::read_leading) ignores the positionals.
+    /// `read_leading` of `lexopt_commands` ignores the positionals.
     MissingOption(Names<'a>),
     /// No word comes after the general options, where the name of a command has to be. These are
     /// all declared names, those that ask for the help among them. Only a line of a program with

@@ -10,7 +10,6 @@ ghost use Rattle.lexopt_declaration.specs.Models.{option_view, positional_view};
 use crate::taken::any_has_list;
 use lexopt_declaration::declaration::{Declaration, Declared, Positional, are_text};
 use lexopt_declaration::help;
-use lexopt_declaration::lookup::{guessed_long, index_of_long};
 use lexopt_declaration::positionals::{least_of, most_of};
 use std::alloc::{AllocError, Global};
 use std::convert::Infallible;
@@ -78,12 +77,11 @@ fn checked<'a, F, V, P, M, S>(
 impl<'a, F, V, P, M, S> Options<'a, F, V, P, M, S> {
     ghost use Rattle.std.specs.Prelude.{◌≡◌, IfOk, None, map, string_bytes, true};
     ghost use Rattle.std.specs.List.{list_any};
-    ghost use Rattle.lexopt_line_spec.specs.Table as table;
     ghost use Rattle.lexopt_options_spec.specs.Legal as legal;
     ghost use Rattle.lexopt_options_spec.specs.Places as places;
     ghost use Rattle.lexopt_options.specs.Taken.{has_list};
     ghost use Rattle.lexopt_options_spec.specs.Declarable.{first_fault};
-    ghost use Rattle.lexopt_options_spec.specs.Declaration.{are_clear, are_listable, index_of};
+    ghost use Rattle.lexopt_options_spec.specs.Declaration.{are_clear, are_listable};
     ghost use Rattle.lexopt_options_spec.specs.Declaration.{is_sound};
     ghost use Rattle.lexopt_options_spec.specs.Help.{IsHelp, IsUsage};
     ghost use Rattle.lexopt_declaration.specs.Models.{option_view, positional_view};
@@ -205,18 +203,6 @@ impl<'a, F, V, P, M, S> Options<'a, F, V, P, M, S> {
             ≡ (declaration_of self.now).epilogue }
     {
         self.declaration.epilogue
-    }
-
-    // The index of the option with this long name; `None` if there is none. No two options have one
-    // name, so an option that has it is the first that has it.
-    pub(crate) fn index_of_long(&self, name: &str) -> Option<usize>
-        ensures { result ≡ index_of (declaration_of self.now).options (table.long name.now) }
-    {
-        let options = self.declaration.options;
-        match guessed_long(options, self.declaration.guesses, name) {
-            Some(index) => Some(index),
-            None => index_of_long(options, name),
-        }
     }
 
     // How many positionals a line has to have.

@@ -1,4 +1,5 @@
-//! Reads a whole line by a declaration. `leading.rt` reads only the leading options.
+//! Reads a whole line by a declaration. `leading.rt` of `lexopt_commands` reads only the leading
+//! options.
 ghost use Rattle.std.specs.Prelude.{◌≡◌, ◌≢◌, ◌≤◌, ◌↔◌, ℕ, List, IfOk, OnOk, slice_get, true};
 ghost use Rattle.std.specs.Prelude.{IsTrue, None, Option, Some, false, length, map};
 ghost use Rattle.std.specs.List.{list_any};
@@ -43,7 +44,7 @@ use lexopt_base::refusal::Refusal;
 use lexopt_base::values::read_several;
 use lexopt_declaration::declaration as declared;
 use lexopt_declaration::declaration::{Declared, Names};
-use lexopt_declaration::lookup::{help_names_of, index_of_short};
+use lexopt_declaration::lookup::{help_names_of, index_of_long, index_of_short};
 use lexopt_declaration::nearest::{hinted_names, long_names};
 use lexopt_declaration::positionals::argument_placeholder;
 use lexopt_words::os_string::OsString;
@@ -51,7 +52,7 @@ use std::alloc::{AllocError, Global};
 
 // What the next step of reading a line finds.
 #[derive(Drop)]
-pub enum Outcome {
+pub(crate) enum Outcome {
     // The option at this index, whose values are not read yet.
     Option(usize),
     // A positional.
@@ -64,32 +65,37 @@ pub enum Outcome {
     Unexpected(String, OsString),
 }
 
-// How the reading of a line ended.
+/// How the reading of a line ended.
 #[derive(Drop)]
 pub enum Ended<'a> {
-    // The line was read to its end.
+    /// The line was read to its end.
     End,
-    // This is one positional more than there may be.
+    /// This is one positional more than there may be.
     Positional(OsString),
-    // The option that was read last asks for this.
+    /// The option that was read last asks for this.
     Asked(Asked<'a>),
-    // An option has a mistake.
+    /// An option has a mistake.
     Mistake(Mistake<'a>),
 }
 
-// What was read of a line.
+/// What was read of a line.
 #[derive(Drop)]
 pub struct Read<F, V, P, M, S> {
-    // What the line means, by keys; if an option has a mistake, then before it. Each positional has
-    // the key of the first declared one.
+    /// What the line means, by keys; if an option has a mistake, then before it. Each positional
+    /// has the key of the first declared one.
     pub parsed: Vec<Parsed<F, V, P, M, S>>,
-    // The indices of the required options that were read.
+    /// The indices of the required options that were read.
     pub seen: Vec<usize>,
-    // The number of positionals.
+    /// The number of positionals.
     pub count: usize,
 }
 
-// What is read of a line before its first word: nothing. Its list has room for `room` things.
+/// Returns what is read of a line before its first word: nothing. Its list has room for `room`
+/// things.
+///
+/// # Errors
+///
+/// Returns `AllocError` if an allocation fails.
 #[inline(always)]
 pub fn nothing_read<F, V, P, M, S>(
     alloc: Global,
@@ -131,7 +137,7 @@ fn missing_value<'a, F, V, M, S>(
 
 // Reads the values of this option, whose name was just read, and returns the option by its key.
 // `Err` is the mistake that it has no value, or one that it does not accept.
-pub fn read_by_key<'a, F: Copy, V: Copy, P, M: Copy, S: Copy>(
+fn read_by_key<'a, F: Copy, V: Copy, P, M: Copy, S: Copy>(
     alloc: Global,
     parser: &mut Parser,
     option: &'a Declared<'a, F, V, M, S>,
@@ -219,7 +225,7 @@ fn unknown_short<'a, F, V, P, M, S>(
 // `read_keys` has no room for its result to clear for each word.
 #[cold]
 #[inline(never)]
-pub fn unknown_option<'a, F, V, P, M, S>(
+fn unknown_option<'a, F, V, P, M, S>(
     alloc: Global,
     parser: &mut Parser,
     options: &Options<'a, F, V, P, M, S>,
@@ -236,7 +242,7 @@ pub fn unknown_option<'a, F, V, P, M, S>(
 }
 
 // Whether `count` positionals are as many as there may be.
-pub fn is_full(limit: Option<usize>, count: usize) -> bool
+pub(crate) fn is_full(limit: Option<usize>, count: usize) -> bool
     ensures { IsTrue result ↔ (limit ≡ Some count) }
 {
     match limit {
@@ -248,7 +254,7 @@ pub fn is_full(limit: Option<usize>, count: usize) -> bool
 // Reads what comes next in a line. It is always inlined: a call would clear the places of its
 // results for each word.
 #[inline(always)]
-pub fn read_next<F, V, P, M, S>(
+pub(crate) fn read_next<F, V, P, M, S>(
     parser: &mut Parser,
     options: &Options<'_, F, V, P, M, S>,
 ) -> Result<Outcome, AllocError>
@@ -260,7 +266,7 @@ pub fn read_next<F, V, P, M, S>(
             Some(index) => Ok(Outcome::Option(index)),
             None => Ok(Outcome::Undeclared(Some(option))),
         },
-        Ok(Found::Long) => match options.index_of_long(parser.long_name()) {
+        Ok(Found::Long) => match index_of_long(options.options(), parser.long_name()) {
             Some(index) => Ok(Outcome::Option(index)),
             None => Ok(Outcome::Undeclared(None)),
         },
@@ -274,7 +280,7 @@ pub fn read_next<F, V, P, M, S>(
     }
 }
 
-// The most things that a list has room for before it grows.
+/// The most things that a list has room for before it grows.
 pub const FIRST_ROOM: usize = 16;
 
 // ---- the end of a line
@@ -305,7 +311,7 @@ fn first_unseen<'a, F, V, M, S>(
     None
 }
 
-// The names of the first required option of a declaration whose index is not among `seen`.
+/// Returns the names of the first required option of a declaration whose index is not among `seen`.
 pub fn missing_option<'a, F, V, P, M, S>(
     options: &Options<'a, F, V, P, M, S>,
     seen: &[usize],
@@ -321,7 +327,7 @@ pub fn missing_option<'a, F, V, P, M, S>(
 }
 
 // Adds the index of an option that was read to `seen`, if the option is required.
-pub fn note(required: bool, index: usize, seen: &mut Vec<usize>) -> Result<(), AllocError>
+pub(crate) fn note(required: bool, index: usize, seen: &mut Vec<usize>) -> Result<(), AllocError>
     ensures { OnOk result (seen.new.items ≡ noted required index seen.old.items) }
 {
     if required {
@@ -404,10 +410,15 @@ fn ask<'a, F, V, P, M, S>(
     }
 }
 
-// Reads a line by keys, up to one positional more than `limit`, and adds what is read to `read`. The
-// caller owns `read`, so that this function has little to drop on each way out, and its proof stays
-// cheap. It, `refuse` and `line_of` are always inlined for speed: a call would hand over what was
-// read, which would then stay in memory and not in registers while the line is read.
+/// Reads a line by keys, up to one positional more than `limit`, and adds what is read to `read`. The
+/// line and `read` are those of [`Options::parser_of`] and [`nothing_read`].
+///
+/// # Errors
+///
+/// Returns `AllocError` if an allocation fails.
+// The caller owns `read`, so that this function has little to drop on each way out, and its proof
+// stays cheap. It, `refuse` and `line_of` are always inlined for speed: a call would hand over what
+// was read, which would then stay in memory and not in registers while the line is read.
 #[inline(always)]
 pub fn read_keys<'a, F: Copy, V: Copy, P: Copy, M: Copy, S: Copy>(
     alloc: Global,
@@ -534,8 +545,8 @@ impl<'a, F, V, P, M, S> Options<'a, F, V, P, M, S> {
     ghost use Rattle.lexopt_declaration.specs.Lookups.{help_names};
     ghost use Rattle.lexopt_options.specs.Declarations.{declaration_of, options_of};
 
-    // A parser of these words, none of which is read.
-    pub(crate) fn parser_of(&self, words: Vec<OsString>) -> Parser
+    /// Returns a parser of these words, none of which is read, by the declaration's `short_equals`.
+    pub fn parser_of(&self, words: Vec<OsString>) -> Parser
         ensures { result ≡ start (declaration_of self.now).short_equals words.items }
     {
         let mut parser = Parser::from_vec(words);

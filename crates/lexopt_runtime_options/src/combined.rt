@@ -5,34 +5,8 @@ ghost use Rattle.lexopt_options_spec.specs.Declaration.{are_clear, are_listable}
 ghost use Rattle.lexopt_declaration.specs.Models.{option_view, positional_view};
 
 use lexopt_declaration::declaration::{Declaration, Declared, Group};
-use lexopt_declaration::lookup::slot_of;
 use std::alloc::{AllocError, Global};
 use std::convert::Infallible;
-
-// How many slots are made for each option, at least.
-const SLOTS_FOR_EACH: usize = 4;
-
-// A table of guesses, by which `guessed_long` of `lexopt_declaration` finds long names of these
-// options. Of two options with one slot, the later one has it, since the other is found sooner
-// without a guess. Options after the first 65,536 have none.
-fn guesses_for<F, V, M, S>(
-    alloc: Global,
-    options: &[Declared<'_, F, V, M, S>],
-) -> Result<Vec<u16>, AllocError> {
-    let slots = options
-        .len()
-        .next_power_of_two()
-        .saturating_mul(SLOTS_FOR_EACH);
-    let mut guesses = vec![in alloc; 0u16; slots]?;
-    for (option, index) in options.iter().zip(0u16..=u16::MAX) {
-        if let Some(name) = option.names.long() {
-            if let Some(guess) = guesses.get_mut(slot_of(name, slots)) {
-                *guess = index;
-            }
-        }
-    }
-    Ok(guesses)
-}
 
 /// A declaration with the options of several groups.
 ///
@@ -55,7 +29,6 @@ fn guesses_for<F, V, M, S>(
 pub struct Combined<'a, F, V = Infallible, P = Infallible, M = Infallible, S = Infallible> {
     declaration: &'a Declaration<'a, F, V, P, M, S>,
     options: Vec<Declared<'a, F, V, M, S>>,
-    guesses: Vec<u16>,
     ghost sound: { first_fault (map option_view options.items) ≡ None },
     ghost clear: { are_clear (map positional_view declaration.now.positionals.now) ≡ true },
     ghost listable: { are_listable (map positional_view declaration.now.positionals.now) ≡ true },
@@ -74,8 +47,7 @@ impl<'a, F: Copy, V: Copy, P, M: Copy, S: Copy> Combined<'a, F, V, P, M, S> {
     ///
     /// # Errors
     ///
-    /// Returns `AllocError` if there is no memory for a list of the options, or for the table by
-    /// which their long names are found.
+    /// Returns `AllocError` if there is no memory for a list of the options.
     pub fn new(
         alloc: Global,
         declaration: &'a Declaration<'a, F, V, P, M, S>,
@@ -94,11 +66,9 @@ impl<'a, F: Copy, V: Copy, P, M: Copy, S: Copy> Combined<'a, F, V, P, M, S> {
         for group in groups {
             options.extend_from_slice(group.options)?;
         }
-        let guesses = guesses_for(alloc, &options)?;
         Ok(Combined {
             declaration,
             options,
-            guesses,
         })
     }
 
@@ -120,7 +90,6 @@ impl<'a, F: Copy, V: Copy, P, M: Copy, S: Copy> Combined<'a, F, V, P, M, S> {
             positionals: self.declaration.positionals,
             epilogue: self.declaration.epilogue,
             short_equals: self.declaration.short_equals,
-            guesses: &self.guesses,
         }
     }
 }

@@ -1,6 +1,9 @@
-//! Each public call of `Commands`, and the words, the variable and `COLUMNS` of an environment.
+//! Each public call of `Commands`, the calls for leading options, and the words, the variable and
+//! `COLUMNS` of an environment.
 use crate::git::{Flag, Task, Value, git};
-use lexopt_commands::{Command, CommandLine, Commands, Step, declare_commands};
+use lexopt_commands::{
+    Command, CommandLine, Commands, Leading, Step, complete_leading, declare_commands, read_leading,
+};
 use lexopt_options::{Mistake, OsString, Refused, Request};
 use std::alloc::{AllocError, Global};
 use std::fmt::Debug;
@@ -14,10 +17,11 @@ enum Call {
     Read,
     Answer,
     Complete,
+    ReadLeading,
     CompleteLeading,
 }
 
-use Call::{Answer, Complete, CompleteLeading, Read};
+use Call::{Answer, Complete, CompleteLeading, Read, ReadLeading};
 
 // At 30 columns the help of an entry begins at column 10.
 const HELP_AT_30: &str = "\
@@ -45,7 +49,7 @@ It has no index.
 ";
 
 // Calls, lines, and what is read, printed or refused.
-static ROWS: [(Call, &[u8], &str); 17] = [
+static ROWS: [(Call, &[u8], &str); 20] = [
     (
         Read,
         b"-C dir -- add -f \xFF",
@@ -94,6 +98,17 @@ static ROWS: [(Call, &[u8], &str); 17] = [
     // After `--help` the general declaration alone decides. It has no positionals.
     (Complete, b"--help -v", "-v\ttell more\n"),
     (Complete, b"--help x -v", ""),
+    (
+        ReadLeading,
+        b"-vC x -- add -v",
+        "[Flag(Verbose), Value(Directory, \"x\")], then [\"add\", \"-v\"]",
+    ),
+    (ReadLeading, b"-h add", "Help"),
+    (
+        ReadLeading,
+        b"-v -C",
+        "[Flag(Verbose)], then missing argument DIR for option '-C'",
+    ),
     (CompleteLeading, b"-v x y -", "Rest([\"x\", \"y\"])"),
     (
         CompleteLeading,
@@ -156,10 +171,22 @@ pub fn text_of_step<K: Debug>(
     }
 }
 
+// What leading options mean, as `Debug` writes it, and the words after them; the request; or what
+// was read before the mistake, and its message.
+fn text_of_leading(alloc: Global, words: Vec<OsString>) -> Result<String, AllocError> {
+    match read_leading(alloc, &git().options(), words)? {
+        Leading::Parsed(parsed, rest) => format!(in alloc; "{parsed:?}, then {rest:?}"),
+        Leading::Asked(asked) => format!(in alloc; "{asked:?}"),
+        Leading::Refused(refused) => {
+            format!(in alloc; "{:?}, then {}", refused.before, refused.mistake)
+        }
+    }
+}
+
 // How the last of these words is completed among leading options, as `Debug` writes it.
 fn text_of_completion(alloc: Global, mut words: Vec<OsString>) -> Result<String, AllocError> {
     let typed = words.pop().unwrap_or(OsString::new(alloc));
-    let completion = git().options().complete_leading(alloc, words, &typed)?;
+    let completion = complete_leading(alloc, &git().options(), words, &typed)?;
     format!(in alloc; "{completion:?}")
 }
 
@@ -173,6 +200,7 @@ fn text_of(alloc: Global, call: Call, line: &[u8]) -> Result<String, AllocError>
             let request = Request::new(alloc, Some(b"zsh_complete"), words);
             text_of_step(alloc, &git().answer_request(alloc, request, 30))
         }
+        ReadLeading => text_of_leading(alloc, words),
         CompleteLeading => text_of_completion(alloc, words),
     }
 }

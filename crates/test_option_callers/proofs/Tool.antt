@@ -6,9 +6,9 @@ use Rattle.std.proofs.lemmas.Option.{slice_get-map}
 use Rattle.lexopt_options_spec.specs.Declaration.{Declaration, Declared as SpecDeclared, for_help, for_version}
 use Rattle.lexopt_options_spec.specs.Asking.{AskFor, first_asked, parsed_before}
 use Rattle.lexopt_options_spec.specs.Leading.{AsksLeading, LeadingStopsAt, MeansLeading}
-use Rattle.lexopt_options.specs.declared.leading.Leading.{Leading}
-use Rattle.lexopt_options.specs.declared.leading.Leading.TheVariants as leading
-use Rattle.lexopt_options.specs.LeadingLines.{IsLeadingOf, IsLeadingRead}
+use Rattle.lexopt_commands.specs.declared.leading.Leading.{Leading}
+use Rattle.lexopt_commands.specs.declared.leading.Leading.TheVariants as leading
+use Rattle.lexopt_commands.specs.LeadingLines.{IsLeadingOf, IsLeadingRead}
 use Rattle.lexopt_options_spec.specs.Legal as legal
 use Rattle.lexopt_options_spec.specs.Legal.{Means}
 use Rattle.lexopt_options_spec.specs.Places.{ArePlaces}

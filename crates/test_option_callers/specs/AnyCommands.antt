@@ -24,7 +24,7 @@ use Rattle.lexopt_options.specs.declared.request.Request.TheVariants as request
 use Rattle.lexopt_options.specs.Answers.{script_lines}
 use Rattle.lexopt_options.specs.Declarations.{declaration_of, options_of}
 use Rattle.lexopt_options.specs.Keys.{AreParsedAs, asked_view}
-use Rattle.lexopt_options.specs.LeadingLines.{IsLeadingRefused}
+use Rattle.lexopt_commands.specs.LeadingLines.{IsLeadingRefused}
 use Rattle.lexopt_commands.specs.declared.answer.Step.{Step}
 use Rattle.lexopt_commands.specs.declared.answer.Step.TheVariants as step
 use Rattle.lexopt_commands.specs.declared.call.Call.{Call}

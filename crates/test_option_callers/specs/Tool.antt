@@ -36,8 +36,8 @@ use Rattle.lexopt_options.specs.declared.answer.Answer.TheVariants as answer
 use Rattle.lexopt_options.specs.declared.complete.Joined.{Joined}
 use Rattle.lexopt_options.specs.declared.complete.Role.{Role}
 use Rattle.lexopt_options.specs.declared.complete.Role.TheVariants as role
-use Rattle.lexopt_options.specs.declared.leading.Leading.{Leading}
-use Rattle.lexopt_options.specs.declared.leading.Leading.TheVariants as leading
+use Rattle.lexopt_commands.specs.declared.leading.Leading.{Leading}
+use Rattle.lexopt_commands.specs.declared.leading.Leading.TheVariants as leading
 use Rattle.lexopt_options.specs.declared.mistake.Mistake.{Mistake}
 use Rattle.lexopt_options.specs.declared.mistake.Mistake.TheVariants as mistake
 use Rattle.lexopt_options.specs.declared.mistake.OptionName.TheVariants as name

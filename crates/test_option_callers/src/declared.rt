@@ -18,11 +18,12 @@ ghost use Rattle.test_option_callers.specs.Tool.{LineTells, ToolLeading};
 ghost use Rattle.test_option_callers.specs.Tool.{IsToolUsage, ToolAnswer, ToolLine, tool};
 ghost use Rattle.test_option_callers.specs.Tool.{tool_options};
 
+use lexopt_commands::Leading;
 use lexopt_items::items::Table;
 use lexopt_option_table::table_of;
 use lexopt_options::{
-    Answer, Completion, Count, Declaration, Declared, Kind, Leading, Line, Names, Options,
-    OsString, Positional, Request, Words, variable,
+    Answer, Completion, Count, Declaration, Declared, Kind, Line, Names, Options, OsString,
+    Positional, Request, Words, variable,
 };
 use std::alloc::{AllocError, Global};
 
@@ -164,7 +165,6 @@ static TOOL: Declaration<'static, Flag, Value, Word, Maybe, Values> = Declaratio
     ],
     epilogue: &["End."],
     short_equals: true,
-    guesses: &[],
 };
 
 /// Reads a line of the tool.
@@ -189,7 +189,7 @@ pub fn read_leading(
         → MeansLeading tool words.items l rest
         → IfOk result (λ leading. LeadingTells l rest leading) }
 {
-    Options::new(&TOOL).read_leading(alloc, words)
+    lexopt_commands::read_leading(alloc, &Options::new(&TOOL), words)
 }
 
 /// What can complete a typed word after these words of a line of the tool.

@@ -94,7 +94,6 @@ pub fn fault_of_two(
         positionals: &[],
         epilogue: &[],
         short_equals: true,
-        guesses: &[],
     };
     match try_options(&declaration) {
         Ok(_) => None,
@@ -164,7 +163,6 @@ pub fn usage_or_error(
         positionals: &positionals,
         epilogue: &[],
         short_equals: true,
-        guesses: &[],
     };
     usage_or_error_of(alloc, width, &declaration)
 }

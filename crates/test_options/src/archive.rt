@@ -1,7 +1,5 @@
 //! The declaration that the tests share, and the text of what is read.
-use lexopt_options::{
-    Answer, Declaration, Declared, Leading, Line, Names, Options, Positional, declare,
-};
+use lexopt_options::{Answer, Declaration, Declared, Line, Names, Options, Positional, declare};
 use std::alloc::{AllocError, Global};
 
 #[derive(Debug, Clone, Copy)]
@@ -41,8 +39,6 @@ pub type Archive<'a> = Declaration<'a, Flag, Value, Word, Maybe, Values>;
 pub type ArchiveOptions<'a> = Options<'a, Flag, Value, Word, Maybe, Values>;
 
 pub type ArchiveAnswer<'a> = Result<Answer<'a, Flag, Value, Word, Maybe, Values>, AllocError>;
-
-pub type ArchiveLeading<'a> = Result<Leading<'a, Flag, Value, Word, Maybe, Values>, AllocError>;
 
 pub type ArchiveLine<'a> = Result<Line<'a, Flag, Value, Word, Maybe, Values>, AllocError>;
 
@@ -87,7 +83,6 @@ pub fn archive<'a>(
         positionals,
         epilogue: &[],
         short_equals: true,
-        guesses: &[],
     }
 }
 

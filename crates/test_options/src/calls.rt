@@ -1,10 +1,9 @@
 //! Each public call of `Options` on a line or a declaration.
 use crate::archive::{
-    ARCHIVE, ArchiveLeading, ArchiveLine, ArchiveOptions, Flag, archive, archive_of_files,
-    text_of_answer,
+    ARCHIVE, ArchiveLine, ArchiveOptions, Flag, archive, archive_of_files, text_of_answer,
 };
 use lexopt_option_table::table_of;
-use lexopt_options::{Declared, Leading, Line, Names, OsString, Request, Shell};
+use lexopt_options::{Declared, Line, Names, OsString, Request, Shell};
 use lexopt_runtime_options::{DeclarationError, Reason, try_options};
 use std::alloc::{AllocError, Global};
 use test_helpers::parsers::words_of;
@@ -14,12 +13,11 @@ use test_helpers::parsers::words_of;
 #[derive(Clone, Copy)]
 enum Call {
     Read,
-    ReadLeading,
     Answer,
     Complete,
 }
 
-use Call::{Answer, Complete, Read, ReadLeading};
+use Call::{Answer, Complete, Read};
 
 const HELP_AT_40: &str = "Usage: archive [OPTION]... [FILE]...
 Packs files.
@@ -40,7 +38,7 @@ Packs files.
 ";
 
 // Calls, lines, and what is read, printed or refused.
-static ROWS: [(Call, &[u8], &str); 11] = [
+static ROWS: [(Call, &[u8], &str); 8] = [
     (
         Read,
         b"-vo=x --output y -bz --exclude a b -- -f\xFF",
@@ -53,17 +51,6 @@ static ROWS: [(Call, &[u8], &str); 11] = [
         b"-v --verbsoe",
         "[Flag(Verbose)], then archive: invalid option '--verbsoe'; did you mean '--verbose'?\n\
         Try 'archive --help' for more information.",
-    ),
-    (
-        ReadLeading,
-        b"-vo x -- add -v",
-        "[Flag(Verbose), Value(Output, \"x\")], then [\"add\", \"-v\"]",
-    ),
-    (ReadLeading, b"-h add", "Help"),
-    (
-        ReadLeading,
-        b"-v -o",
-        "[Flag(Verbose)], then missing argument FILE for option '-o'",
     ),
     (Answer, b"-v a", "[Flag(Verbose), Positional(File, \"a\")]"),
     (Answer, b"a --help --bogus", HELP_AT_40),
@@ -87,25 +74,12 @@ fn text_of_line(alloc: Global, line: &ArchiveLine<'_>) -> Result<String, AllocEr
     }
 }
 
-// The same for leading options, with the words after them.
-fn text_of_leading(alloc: Global, leading: &ArchiveLeading<'_>) -> Result<String, AllocError> {
-    match leading {
-        Ok(Leading::Parsed(parsed, rest)) => format!(in alloc; "{parsed:?}, then {rest:?}"),
-        Ok(Leading::Asked(asked)) => format!(in alloc; "{asked:?}"),
-        Ok(Leading::Refused(refused)) => {
-            format!(in alloc; "{:?}, then {}", refused.before, refused.mistake)
-        }
-        Err(_) => Err(AllocError),
-    }
-}
-
 // What the call returns for these words, as a text.
 fn text_of(alloc: Global, call: Call, line: &[u8]) -> Result<String, AllocError> {
     let options = archive_of_files();
     let words = words_of(alloc, line)?;
     match call {
         Read => text_of_line(alloc, &options.read(alloc, words)),
-        ReadLeading => text_of_leading(alloc, &options.read_leading(alloc, words)),
         Answer => text_of_answer(alloc, &options.answer(alloc, words, 40)),
         Complete => {
             let request = Request::new(alloc, Some(b"bash_complete"), words);

@@ -17,7 +17,7 @@ pub returns-in-Some-index_of_long : goal.returns-in-Some-index_of_long
 returns-in-Some-index_of_long g c =
     let is : c.advance.result ≡ Ok found.Long = c.in-Ok-Long.is ∙ ap Ok c.in-Ok-Long.field-0-is in
     let step = named _ _ c.long_name.result.now (answered _ _ _ _ c.advance.ensures is) c.long_name.ensures in
-    (long c.long_name.result.now, step, sym c.index_of_long.ensures ∙ c.in-Some-index_of_long.is)
+    (long c.long_name.result.now, step, sym (ap (λ os. index_of os (long c.long_name.result.now)) c.options-in-Ok-Long.ensures.view) ∙ sym c.index_of_long.ensures ∙ c.in-Some-index_of_long.is)
 
 pub returns-in-None : goal.returns-in-None
 returns-in-None g c =
@@ -28,7 +28,7 @@ pub returns-in-None-index_of_long : goal.returns-in-None-index_of_long
 returns-in-None-index_of_long g c =
     let is : c.advance.result ≡ Ok found.Long = c.in-Ok-Long.is ∙ ap Ok c.in-Ok-Long.field-0-is in
     undeclared_long (declaration_of c.args.options.now) _ _ c.long_name.result.now (answered _ _ _ _ c.advance.ensures is) c.long_name.ensures
-    (sym c.index_of_long.ensures ∙ c.in-None-index_of_long.is)
+    (sym (ap (λ os. index_of os (long c.long_name.result.now)) c.options-in-Ok-Long.ensures.view) ∙ sym c.index_of_long.ensures ∙ c.in-None-index_of_long.is)
 
 pub returns-in-Ok-Value : goal.returns-in-Ok-Value
 returns-in-Ok-Value g c =

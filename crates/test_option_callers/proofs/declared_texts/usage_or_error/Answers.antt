@@ -19,7 +19,6 @@ returns c =
       };
       epilogue = record { ref_ptr = (0, 0); now = [] };
       short_equals = true;
-      guesses = record { ref_ptr = (0, 0); now = [] };
     }) c.usage_or_error_of.ensures
     (ap (λ o. record (made c.args.character c.args.help.now (count_view c.args.first) (count_view c.args.second) (map (λ value. value.now) c.args.values.now)) { options = option_view o ∷ [] }) c.flag.ensures
     ∙ same_tool c.args.character c.args.help.now c.args.first c.args.second (map (λ value. value.now) c.args.values.now))

@@ -1,6 +1,6 @@
 use Rattle.std.proofs.Common.{◌∙◌, ◌++◌, ap, inl, inr, string_bytes, subst}
 use Rattle.std.proofs.lemmas.Result.{IfOk-weaker}
-use Rattle.lexopt_options.specs.Begun.{IsLeadingCompletion}
+use Rattle.lexopt_commands.specs.LeadingLines.{IsLeadingCompletion}
 use Rattle.lexopt_commands.proofs.commands.Commands.completion_step.Goals as goal
 
 pub returns-in-Rest : goal.returns-in-Rest

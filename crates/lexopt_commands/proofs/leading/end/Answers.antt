@@ -1,7 +1,7 @@
 use Rattle.std.proofs.Common.{refl, sym, ◌∙◌}
 use Rattle.lexopt_options_spec.specs.Leading.{lacks_option}
 use Rattle.lexopt_options_spec.specs.Stops as stops
-use Rattle.lexopt_options.proofs.leading.end.Goals as goal
+use Rattle.lexopt_commands.proofs.leading.end.Goals as goal
 
 pub returns-in-Some : goal.returns-in-Some
 returns-in-Some g c = λ words u v count reply had step last split.

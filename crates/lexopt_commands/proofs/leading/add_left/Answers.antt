@@ -1,7 +1,7 @@
 use Rattle.std.proofs.Common.{◌++◌, ◌∷◌, ◌∙◌, [], ap, append_assoc, arith, length, sym}
 use Rattle.lexopt_options_spec.proofs.LeadingOptions.{append_nil}
-use Rattle.lexopt_options.proofs.LeadingRead.{no_length}
-use Rattle.lexopt_options.proofs.leading.add_left.Goals as goal
+use Rattle.lexopt_commands.proofs.LeadingRead.{no_length}
+use Rattle.lexopt_commands.proofs.leading.add_left.Goals as goal
 
 pub loop-asked-preserved : goal.loop-asked-preserved
 loop-asked-preserved c =

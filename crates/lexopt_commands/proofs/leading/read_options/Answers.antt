@@ -4,9 +4,10 @@ use Rattle.lexopt_options_spec.specs.Leading.{IsSplit, at_option, ends, position
 use Rattle.lexopt_options_spec.proofs.LeadingOptions.{leading_front, leading_whole}
 use Rattle.lexopt_options.specs.Declarations.{declaration_of}
 use Rattle.lexopt_options.specs.Reading.{HasRead}
-use Rattle.lexopt_options.proofs.LeadingRead.{none_counted, nothing_pending}
+use Rattle.lexopt_options.proofs.Beginnings.{nothing_pending}
+use Rattle.lexopt_commands.proofs.LeadingRead.{none_counted}
 use Rattle.lexopt_options.proofs.ReadNext.{none_within}
-use Rattle.lexopt_options.proofs.leading.read_options.Goals as goal
+use Rattle.lexopt_commands.proofs.leading.read_options.Goals as goal
 
 pub read_keys-requires-clause-within : goal.read_keys-requires-clause-within
 read_keys-requires-clause-within g c = λ n within. none_within _ n within

@@ -1,15 +1,20 @@
--- The results of reading the leading options of a line: the relations of the grammar, for a
--- declaration and the types of the code.
-use Rattle.std.specs.Prelude.{◌≡◌, ℕ, List, Some, None}
+-- The results of reading the leading options of a line, and what can come after them: the relations
+-- of the grammar, for a declaration and the types of the code.
+use Rattle.std.specs.Prelude.{◌≡◌, ℕ, List, Some, None, string_bytes}
+use Rattle.std.specs.declared.convert.Infallible.{Infallible}
 use Rattle.lexopt_options_spec.specs.Asking.{first_asked, parsed_before}
 use Rattle.lexopt_options_spec.specs.Leading.{AsksLeading, LeadingStopsAt, MeansLeading}
 use Rattle.lexopt_options_spec.specs.Legal as legal
 use Rattle.lexopt_options_spec.specs.Stops as stops
 use Rattle.lexopt_declaration.specs.Lookups.{help_names}
-use Rattle.lexopt_options.specs.declared.leading.Leading.{Leading}
-use Rattle.lexopt_options.specs.declared.leading.Leading.TheVariants as leading
+use Rattle.lexopt_commands.specs.declared.leading.Leading.{Leading}
+use Rattle.lexopt_commands.specs.declared.leading.Leading.TheVariants as leading
+use Rattle.lexopt_commands.specs.declared.leading.LeadingCompletion.{LeadingCompletion}
+use Rattle.lexopt_commands.specs.declared.leading.LeadingCompletion.TheVariants as found
 use Rattle.lexopt_options.specs.declared.options.Options.{Options}
 use Rattle.lexopt_options.specs.declared.refused.Refused.{Refused}
+use Rattle.lexopt_options.specs.Answers.{IsCompletionText}
+use Rattle.lexopt_options.specs.Begun.{HaveNoRest, HaveRest, TellsFirst}
 use Rattle.lexopt_options.specs.Declarations.{declaration_of, options_of}
 use Rattle.lexopt_options.specs.Keys.{AreParsedAs, asked_view}
 use Rattle.lexopt_options.specs.Mistakes.{IsMistake}
@@ -43,3 +48,11 @@ IsLeadingOf o l rest (leading.Parsed parsed others) = (first_asked (declaration_
 IsLeadingOf o l rest (leading.Asked asked) =
     first_asked (declaration_of o).options l ≡ Some (asked_view asked)
 IsLeadingOf o l rest (leading.Refused refused) = ⊥
+
+-- this rest comes after leading options; or none does, and this is the text of what can come where
+-- this is typed, and whether a word can come first
+abbrev pub IsLeadingCompletion : {F V M S : Type 0} → Options F V Infallible M S → List (List ℕ)
+    → List ℕ → LeadingCompletion → Type 0
+IsLeadingCompletion o words typed (found.Rest rest) = HaveRest (declaration_of o) words rest.items
+IsLeadingCompletion o words typed (found.Text text can) = HaveNoRest (declaration_of o) words
+    × IsCompletionText o words typed (string_bytes text) × TellsFirst (declaration_of o) words can

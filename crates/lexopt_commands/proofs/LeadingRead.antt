@@ -1,10 +1,5 @@
 -- What is read of the leading options of a line, by keys.
 use Rattle.std.proofs.Common.{◌≡◌, ℕ, List, [], ◌∷◌, ◌++◌, length, Some, None, refl, subst, ap, append_assoc, ◌∙◌, arith}
-use Rattle.lexopt_spec.specs.UnreadLine.{UnreadLine, pending, pending_in}
-use Rattle.lexopt_spec.specs.Steps as steps
-use Rattle.lexopt_spec.specs.Steps.{Next, NextStep}
-use Rattle.lexopt_options_spec.proofs.Cuts.{enough}
-use Rattle.lexopt_options_spec.proofs.LeadingOptions.{word_read}
 use Rattle.lexopt_options_spec.specs.Asking.{asked_by}
 use Rattle.lexopt_options_spec.specs.Declaration as spec
 use Rattle.lexopt_options_spec.specs.Legal as legal
@@ -14,12 +9,12 @@ use Rattle.lexopt_options_spec.proofs.LeadingStops.{leading_later, nothing_leads
 use Rattle.lexopt_options_spec.proofs.OneLeading.{one_leading}
 use Rattle.lexopt_options_spec.specs.Leading.{MeansLeading}
 use Rattle.lexopt_options_spec.specs.Asking.{first_asked}
-use Rattle.lexopt_options.specs.declared.leading.Leading.{Leading}
-use Rattle.lexopt_options.specs.declared.leading.Leading.TheVariants as variant
+use Rattle.lexopt_commands.specs.declared.leading.Leading.{Leading}
+use Rattle.lexopt_commands.specs.declared.leading.Leading.TheVariants as variant
 use Rattle.lexopt_options.specs.declared.options.Options.{Options}
 use Rattle.lexopt_options.specs.Declarations.{declaration_of, options_of}
 use Rattle.lexopt_options.specs.Keys.{AreParsedAs, asked_view}
-use Rattle.lexopt_options.specs.LeadingLines.{IsLeadingOf, IsLeadingRead}
+use Rattle.lexopt_commands.specs.LeadingLines.{IsLeadingOf, IsLeadingRead}
 use Rattle.lexopt_options.proofs.Keys.{asked_here}
 
 -- what asks for something is not a positional
@@ -35,10 +30,6 @@ none_counted n within = omega (arith, within)
 pub no_length : {X : Type 0} (l : List X) → length l ≡ 0 → l ≡ []
 no_length [] is = refl
 no_length (x ∷ l) is = absurd (omega (arith, is))
-
--- after a positional no value is pending
-pub nothing_pending : (u w : UnreadLine) (word : List ℕ) → Next u (steps.positional word) w → pending w ≡ None
-nothing_pending u w word next = ap (pending_in w.short_equals) (word_read u w word (enough NextStep u (steps.positional word) w next (λ is. cc))).none
 
 -- leading options that are read are those that their words mean
 pub leading_of : {F V P M S : Type 0} (o : Options F V P M S) (words : List (List ℕ)) (leading : Leading F V P M S) → IsLeadingRead o words leading
