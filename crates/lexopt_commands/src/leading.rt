@@ -13,7 +13,8 @@ ghost use Rattle.lexopt_options.specs.Declarations.{declaration_of, options_of};
 ghost use Rattle.lexopt_options.specs.Keys.{AreParsedAs};
 ghost use Rattle.lexopt_options.specs.Mistakes.{IsMistake};
 ghost use Rattle.lexopt_options.specs.Reading.{HasRead};
-ghost use Rattle.lexopt_commands.specs.LeadingLines.{IsLeadingCompletion, IsLeadingOf, IsLeadingRead};
+ghost use Rattle.lexopt_commands.specs.LeadingLines.{IsLeadingCompletion, IsLeadingOf};
+ghost use Rattle.lexopt_commands.specs.LeadingLines.{IsLeadingRead};
 
 use lexopt_base::parser::Parser;
 use lexopt_base::raw::RawArgs;
@@ -165,7 +166,7 @@ fn read_options<'a, F: Copy, V: Copy, P: Copy, M: Copy, S: Copy>(
 /// for word in ["-C", "dir", "add", "-v", "file"] {
 ///     words.push(OsString::from_text(alloc, word)?)?;
 /// }
-/// if let Leading::Parsed(parsed, rest) = read_leading(alloc, &commands.options(), words)? {
+/// if let Leading::Parsed(parsed, rest) = read_leading(alloc, &Options::new(&GENERAL), words)? {
 ///     // `parsed` is Value((), "dir"); `rest` is `add`, `-v`, `file`.
 /// }
 /// ```
@@ -197,7 +198,7 @@ pub enum LeadingCompletion {
     /// The words before it are legal leading options that ask for nothing, and then these words, of
     /// which there is at least one.
     Rest(Vec<OsString>),
-    /// They are not.
+    /// There are no such words. This is what can come where the word is typed.
     Text {
         /// The text of `Options::completion_text`.
         text: String,
@@ -207,9 +208,9 @@ pub enum LeadingCompletion {
     },
 }
 
-// The result of `complete_leading` for the line of this parser, none of which is read. `room` is the
-// room of the list of the rest. It is separate from `complete_leading`, which drops the parser, so
-// that both proofs stay cheap.
+// The result of `complete_leading` for the line of this parser, none of which is read. `room` is
+// the room of the list of the rest. It is separate from `complete_leading`, which drops the parser,
+// so that both proofs stay cheap.
 fn complete_parsed<F, V, M, S>(
     alloc: Global,
     parser: &mut Parser,
@@ -251,16 +252,9 @@ fn complete_parsed<F, V, M, S>(
 ///
 /// # Examples
 ///
-/// After the word `-Cdir`:
+/// With the general options of [`declare_commands!`](crate::declare_commands), after `-Cdir`:
 ///
 /// ```rust
-/// use std::convert::Infallible;
-///
-/// static GENERAL: Declaration<'static, Infallible, ()> = declare! {
-///     program: "git",
-///     options: [value((), Names::Both('C', "directory"), "DIR", "work there")],
-/// };
-///
 /// let words = vec![in alloc; OsString::from_text(alloc, "-Cdir")?]?;
 /// let typed = OsString::from_text(alloc, "a")?;
 /// match complete_leading(alloc, &Options::new(&GENERAL), words, &typed)? {

@@ -306,8 +306,9 @@ impl<F, V, P, M, S> Options<'_, F, V, P, M, S> {
         self.completion_text_after(alloc, &front, typed)
     }
 
-    /// Returns the text of [`Options::completion_text`] where `typed` is typed after words that mean
-    /// this. It is for `lexopt_commands`.
+    /// Returns the text of [`Options::completion_text`] where `typed` is typed after words that
+    /// mean `front`, as `read_front` returns it. It is for libraries; a program calls
+    /// `completion_text`.
     ///
     /// # Errors
     ///

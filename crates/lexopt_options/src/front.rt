@@ -262,8 +262,9 @@ fn can_end<F, V, P, M, S>(
     are_legal(options, seen, accepted, unasked)
 }
 
-/// Reads words as the beginning of a line, up to one positional too many. The line is that of
-/// `Options::parser_of`.
+/// Reads words as the beginning of a line, up to one positional too many. `parser` is one that
+/// [`Options::parser_of`] returned, of which nothing was read. It is for libraries; a program calls
+/// [`Options::complete`].
 ///
 /// # Errors
 ///

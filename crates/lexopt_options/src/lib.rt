@@ -186,8 +186,10 @@
 //! - [`Options::answer`] reads words of the program's own, as a test does, and [`Options::read`]
 //!   returns the request for the help, and the mistake, as values. [`Options::help`] and
 //!   [`Options::usage`] return texts; [`columns`] is the width for them.
-//! - A program with commands names `lexopt_commands` too, and so does one whose line goes on with
-//!   the words of another program, as that of `env` does.
+//! - A program with commands names `lexopt_commands` too. So does one whose line goes on with the
+//!   words of another program, as that of `env` does: it calls `read_leading` of that crate.
+//! - The modules `front` and `read` are for libraries that read a part of a line, as
+//!   `lexopt_commands` does.
 //!
 //! # Completion in a shell
 //!

@@ -70,7 +70,7 @@ pub(crate) enum Outcome {
 pub enum Ended<'a> {
     /// The line was read to its end.
     End,
-    /// This is one positional more than there may be.
+    /// This is one positional more than the limit.
     Positional(OsString),
     /// The option that was read last asks for this.
     Asked(Asked<'a>),
@@ -90,8 +90,7 @@ pub struct Read<F, V, P, M, S> {
     pub count: usize,
 }
 
-/// Returns what is read of a line before its first word: nothing. Its list has room for `room`
-/// things.
+/// Returns a [`Read`] of nothing, for [`read_keys`]. Its list has room for `room` things.
 ///
 /// # Errors
 ///
@@ -280,7 +279,7 @@ pub(crate) fn read_next<F, V, P, M, S>(
     }
 }
 
-/// The most things that a list has room for before it grows.
+/// The most things for which a list gets room before a line is read.
 pub const FIRST_ROOM: usize = 16;
 
 // ---- the end of a line
@@ -410,8 +409,12 @@ fn ask<'a, F, V, P, M, S>(
     }
 }
 
-/// Reads a line by keys, up to one positional more than `limit`, and adds what is read to `read`. The
-/// line and `read` are those of [`Options::parser_of`] and [`nothing_read`].
+/// Reads a line by keys, up to one positional more than `limit`, and puts what is read into `read`.
+///
+/// It is for libraries that read a part of a line. A program calls [`Options::read`]. `parser` is
+/// one that [`Options::parser_of`] returned, of which nothing was read, and `read` is a result of
+/// [`nothing_read`]. `limit` is at most the number of positionals that the declaration allows;
+/// `None` is no limit.
 ///
 /// # Errors
 ///
@@ -545,7 +548,8 @@ impl<'a, F, V, P, M, S> Options<'a, F, V, P, M, S> {
     ghost use Rattle.lexopt_declaration.specs.Lookups.{help_names};
     ghost use Rattle.lexopt_options.specs.Declarations.{declaration_of, options_of};
 
-    /// Returns a parser of these words, none of which is read, by the declaration's `short_equals`.
+    /// Returns a parser of these words, none of which has been read, with the `short_equals` of the
+    /// declaration. It is for libraries; a program calls [`Options::read`].
     pub fn parser_of(&self, words: Vec<OsString>) -> Parser
         ensures { result ≡ start (declaration_of self.now).short_equals words.items }
     {

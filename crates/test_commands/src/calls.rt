@@ -4,8 +4,9 @@ use crate::git::{Flag, Task, Value, git};
 use lexopt_commands::{
     Command, CommandLine, Commands, Leading, Step, complete_leading, declare_commands, read_leading,
 };
-use lexopt_options::{Mistake, OsString, Refused, Request};
+use lexopt_options::{Declaration, Mistake, Names, Options, OsString, Refused, Request, declare};
 use std::alloc::{AllocError, Global};
+use std::convert::Infallible;
 use std::fmt::Debug;
 use test_helpers::environments::{Arguments, Variable};
 use test_helpers::parsers::words_of;
@@ -211,6 +212,26 @@ fn rows(rt: HostRuntime) {
         let text = text_of(rt.alloc(), *call, line).expect(&rt, "memory");
         assert_eq!(rt; text.as_str(), *wanted, "{line:?}");
     }
+}
+
+static WRAP: Declaration<'static, Flag, Infallible, ()> = declare! {
+    program: "wrap",
+    options: [flag(Flag::Verbose, Names::Short('v'), "tell more")],
+    positionals: [once((), "COMMAND")],
+};
+
+// Whether the rest of a line has a declared positional, and the word after it.
+fn ignores_positionals(alloc: Global) -> Result<bool, AllocError> {
+    let words = words_of(alloc, b"-v a b")?;
+    match read_leading(alloc, &Options::new(&WRAP), words)? {
+        Leading::Parsed(parsed, rest) => Ok(parsed.len() == 1 && rest.len() == 2),
+        _ => Ok(false),
+    }
+}
+
+#[test]
+fn leading_options_before_a_declared_positional(rt: HostRuntime) {
+    assert!(rt; ignores_positionals(rt.alloc()).expect(&rt, "memory"));
 }
 
 // What the program does with these words of an environment, at the width of `COLUMNS`.
