@@ -34,20 +34,21 @@ pub struct Refused<'a, F, V = Infallible, P = Infallible, M = Infallible, S = In
     pub mistake: Mistake<'a>,
 }
 
-impl<F, V, P, M, S> Refused<'_, F, V, P, M, S> {
+impl<F: Drop, V: Drop, P: Drop, M: Drop, S: Drop> Refused<'_, F, V, P, M, S> {
     /// Prints this and a line feed to standard error, and returns the status to exit with,
-    /// [`USAGE_ERROR`]. The status is the same if it can't be printed.
+    /// [`USAGE_ERROR`]. The status is the same if it can't be printed. This call consumes the
+    /// refusal, so that a program has nothing to drop after it.
     ///
     /// # Examples
     ///
     /// ```rust
     /// use std::process::ExitCode;
     ///
-    /// fn refuse(rt: &HostRuntime, refused: &Refused<'_, Flag, Value, Word>) -> ExitCode {
+    /// fn refuse(rt: &HostRuntime, refused: Refused<'_, Flag, Value, Word>) -> ExitCode {
     ///     refused.print(rt)
     /// }
     /// ```
-    pub fn print<R: Eprint>(&self, rt: &R) -> ExitCode
+    pub fn print<R: Eprint>(self, rt: &R) -> ExitCode
         ensures { exit_status result ≡ 2 }
     {
         let _ = eprintln!(rt; "{self}");

@@ -188,9 +188,9 @@ impl Report<'_> {
     }
 
     /// Prints this and a line feed to standard error, and returns [`Report::status`] to exit with.
-    /// The status is the same if it can't be printed.
-    pub fn print<R: Eprint>(&self, rt: &R) -> ExitCode
-        ensures { exit_status result ≡ report_status self.now.error }
+    /// The status is the same if it can't be printed. This call consumes the report.
+    pub fn print<R: Eprint>(self, rt: &R) -> ExitCode
+        ensures { exit_status result ≡ report_status self.entry.error }
     {
         let _ = eprintln!(rt; "{self}");
         ExitCode::from(self.status())
