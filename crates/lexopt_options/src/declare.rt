@@ -1,5 +1,5 @@
-//! `declare!` and `declare_group!`: a declaration, or a group of options, with a line for each
-//! option.
+//! `declare!`, `declare_group!` and `declare_option!`: a declaration, a group of options, or one
+//! option, with a line for each option.
 
 /// Makes a [`Declaration`](crate::Declaration), as the value of a constant, a static or a local.
 ///
@@ -192,5 +192,26 @@ macro_rules! declare_group {
         $crate::Group {
             options: &[$($crate::declare!(@$option $given $(.$mark $marked)*)),*],
         }
+    };
+}
+
+/// Makes one [`Declared`](crate::Declared) of a line that `options` can have in
+/// [`declare!`](crate::declare). It is for options that are known only when the program runs.
+///
+/// # Examples
+///
+/// With the keys of the example for [`declare!`](crate::declare):
+///
+/// ```rust
+/// use lexopt_options::{Declared, Names, declare_option};
+///
+/// let name = String::from_str(alloc, "mode")?;
+/// let option: Declared<'_, Flag, Value> =
+///     declare_option!(value(Value::Mode, Names::Long(&name), "MODE", "how").text());
+/// ```
+#[macro_export]
+macro_rules! declare_option {
+    ($option:ident $given:tt $(.$mark:ident $marked:tt)*) => {
+        $crate::declare!(@$option $given $(.$mark $marked)*)
     };
 }

@@ -1,6 +1,6 @@
 -- The declarations of the worked examples.
 use Rattle.std.specs.Prelude.{ℕ, List, [], ◌∷◌, Option, None, Some, codes, false, true}
-use Rattle.lexopt_line_spec.specs.Table.{Kind, one}
+use Rattle.lexopt_line_spec.specs.Table.{Kind, flag, one}
 use Rattle.lexopt_options_spec.specs.Completion.{Joined}
 use Rattle.lexopt_options_spec.specs.Declaration.{Declaration, Declared, Positional, Words, files}
 use Rattle.lexopt_options_spec.specs.Declaration.{listed, once}
@@ -18,6 +18,10 @@ demanded_option c name kind placeholder = record {
   required = true;
   words = files;
 }
+
+-- the flag `-v`
+abbrev pub voluntary_option : Declared
+voluntary_option = record (demanded_option (Some 0x76) None flag []) { required = false }
 
 -- an option whose values may be these
 abbrev pub option_of : Option (List ℕ) → Words → Declared

@@ -6,7 +6,8 @@ ghost use Rattle.lexopt_options_spec.specs.Declaration.{directories, files, list
 ghost use Rattle.lexopt_options_spec.specs.Help.{below, columns, described, help_column, label_of};
 ghost use Rattle.lexopt_options_spec.specs.Help.{line_feed, mark_of, option_mark, paragraph};
 ghost use Rattle.lexopt_options_spec.specs.Help.{set_apart, with_list, usage_words, words_of};
-ghost use Rattle.lexopt_options_spec.specs.Examples.{demanded_option, positional_of};
+ghost use Rattle.lexopt_options_spec.specs.Examples.{declaration_of, demanded_option, positional_of};
+ghost use Rattle.lexopt_options_spec.specs.Examples.{voluntary_option};
 
 /// The labels of options with one name and with both.
 pub fn labels_look_so()
@@ -43,52 +44,14 @@ pub fn words_are_in_columns()
 /// The words of the usage line of a program without options, of one with an option, and of one
 /// whose only option is hidden.
 pub fn usage_lines_have_these_words()
-    ensures positionals { usage_words (record {
-      program = codes "pack";
-      about = codes "Packs.";
-      options = [];
-      positionals = record { placeholder = codes "MODE"; count = once; help = []; words = files }
-          ∷ record { placeholder = codes "TARGET"; count = at_most_once; help = []; words = files }
-          ∷ record { placeholder = codes "FILE"; count = any_number; help = []; words = files } ∷ [];
-      epilogue = [];
-      short_equals = true;
-    }) ≡ codes "pack" ∷ codes "MODE" ∷ codes "[TARGET]" ∷ codes "[FILE]..." ∷ [] }
-    ensures options { usage_words (record {
-      program = codes "pack";
-      about = [];
-      options = record {
-        short_name = Some 0x76;
-        long_name = None;
-        kind = flag;
-        placeholder = [];
-        help = [];
-        asks = None;
-        hidden = false;
-        required = false;
-        words = files;
-      } ∷ [];
-      positionals = [];
-      epilogue = [];
-      short_equals = true;
-    }) ≡ codes "pack" ∷ codes "[OPTION]..." ∷ [] }
-    ensures hidden_option { usage_words (record {
-      program = codes "pack";
-      about = [];
-      options = record {
-        short_name = Some 0x76;
-        long_name = None;
-        kind = flag;
-        placeholder = [];
-        help = [];
-        asks = None;
-        hidden = true;
-        required = false;
-        words = files;
-      } ∷ [];
-      positionals = [];
-      epilogue = [];
-      short_equals = true;
-    }) ≡ codes "pack" ∷ [] }
+    ensures positionals { usage_words (declaration_of [] (positional_of (codes "MODE") [] files
+        ∷ record (positional_of (codes "TARGET") [] files) { count = at_most_once }
+        ∷ record (positional_of (codes "FILE") [] files) { count = any_number } ∷ []))
+        ≡ codes "pack" ∷ codes "MODE" ∷ codes "[TARGET]" ∷ codes "[FILE]..." ∷ [] }
+    ensures options { usage_words (declaration_of (voluntary_option ∷ []) [])
+        ≡ codes "pack" ∷ codes "[OPTION]..." ∷ [] }
+    ensures hidden_option { usage_words (declaration_of
+        (record voluntary_option { hidden = true } ∷ []) []) ≡ codes "pack" ∷ [] }
 {}
 
 /// The usage line shows a required option by its long name or by its character; `[OPTION]...` is
@@ -104,33 +67,18 @@ pub fn usage_lines_show_what_is_required()
     ensures several { option_mark (demanded_option (Some 0x78) (Some (codes "exclude")) several
         (codes "GLOB")) ≡ codes "--exclude GLOB..." }
     ensures no_name { mark_of None None flag [] ≡ [] }
-    ensures words { usage_words (record {
-      program = codes "pack";
-      about = [];
-      options = demanded_option (Some 0x75) (Some (codes "user")) one (codes "NAME") ∷ [];
-      positionals = record { placeholder = codes "SOURCE"; count = at_least_once; help = []; words = files }
-          ∷ record { placeholder = codes "DEST"; count = once; help = []; words = files } ∷ [];
-      epilogue = [];
-      short_equals = true;
-    }) ≡ codes "pack" ∷ codes "--user=NAME" ∷ codes "SOURCE..." ∷ codes "DEST" ∷ [] }
-    ensures every_one { usage_words (record {
-      program = codes "pack";
-      about = [];
-      options = demanded_option (Some 0x75) (Some (codes "user")) one (codes "NAME")
-          ∷ record (demanded_option (Some 0x76) None flag []) { required = false }
-          ∷ demanded_option (Some 0x78) None several (codes "GLOB") ∷ [];
-      positionals = [];
-      epilogue = [];
-      short_equals = true;
-    }) ≡ codes "pack" ∷ codes "[OPTION]..." ∷ codes "--user=NAME" ∷ codes "-x GLOB..." ∷ [] }
-    ensures hidden { usage_words (record {
-      program = codes "pack";
-      about = [];
-      options = record (demanded_option None (Some (codes "yes")) flag []) { hidden = true } ∷ [];
-      positionals = [];
-      epilogue = [];
-      short_equals = true;
-    }) ≡ codes "pack" ∷ [] }
+    ensures words { usage_words (declaration_of
+        (demanded_option (Some 0x75) (Some (codes "user")) one (codes "NAME") ∷ [])
+        (record (positional_of (codes "SOURCE") [] files) { count = at_least_once }
+        ∷ positional_of (codes "DEST") [] files ∷ []))
+        ≡ codes "pack" ∷ codes "--user=NAME" ∷ codes "SOURCE..." ∷ codes "DEST" ∷ [] }
+    ensures every_one { usage_words (declaration_of
+        (demanded_option (Some 0x75) (Some (codes "user")) one (codes "NAME")
+        ∷ voluntary_option ∷ demanded_option (Some 0x78) None several (codes "GLOB") ∷ []) [])
+        ≡ codes "pack" ∷ codes "[OPTION]..." ∷ codes "--user=NAME" ∷ codes "-x GLOB..." ∷ [] }
+    ensures hidden { usage_words (declaration_of
+        (record (demanded_option None (Some (codes "yes")) flag []) { hidden = true } ∷ []) [])
+        ≡ codes "pack" ∷ [] }
 {}
 
 /// A positional has an entry if its help text has a word, or if it has a list.

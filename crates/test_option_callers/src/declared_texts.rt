@@ -11,7 +11,8 @@ ghost use Rattle.test_option_callers.specs.Texts.{error_line};
 use crate::declared::{Flag, Value, Word};
 use lexopt_commands::CommandError;
 use lexopt_options::{
-    Count, Declaration, Declared, Mistake, Names, Positional, Refused, Report, UsageError, Words,
+    Count, Declaration, Mistake, Names, Positional, Refused, Report, UsageError, Words,
+    declare_option,
 };
 use lexopt_runtime_options::{DeclarationError, Reason, try_options};
 use std::alloc::{AllocError, Global};
@@ -84,8 +85,10 @@ pub fn fault_of_two(
         (IsFaultOf character name.now placeholder.now listed) }
 {
     let options = [
-        Declared::flag(Flag::Verbose, Names::Both(character, name), ""),
-        Declared::value(Value::Output, Names::Both('v', "verbose"), placeholder, "").one_of(values),
+        declare_option!(flag(Flag::Verbose, Names::Both(character, name), "")),
+        declare_option!(value(Value::Output, Names::Both('v', "verbose"), placeholder, "").one_of(
+            values
+        )),
     ];
     let declaration: Declaration<'_, Flag, Value> = Declaration {
         program: "",
@@ -139,7 +142,7 @@ pub fn usage_or_error(
         (λ text. IsUsageOf width character help.now first second listed (string_bytes text))
         (λ text. IsErrorOf character help.now first second listed (string_bytes text))) }
 {
-    let options = [Declared::flag(Flag::Verbose, Names::Short(character), help)];
+    let options = [declare_option!(flag(Flag::Verbose, Names::Short(character), help))];
     let positionals = [
         Positional {
             key: Word::From,

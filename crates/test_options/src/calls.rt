@@ -3,7 +3,7 @@ use crate::archive::{
     ARCHIVE, ArchiveLine, ArchiveOptions, Flag, archive, archive_of_files, text_of_answer,
 };
 use lexopt_option_table::table_of;
-use lexopt_options::{Declared, Line, Names, OsString, Request, Shell};
+use lexopt_options::{Line, Names, OsString, Request, Shell, declare_option};
 use lexopt_runtime_options::{DeclarationError, Reason, try_options};
 use std::alloc::{AllocError, Global};
 use test_helpers::parsers::words_of;
@@ -157,7 +157,7 @@ fn parts_texts_and_table(rt: HostRuntime) {
 
 // Whether an option named by a dash is the fault of a declaration, and is printed so.
 fn is_fault(alloc: Global) -> Result<bool, AllocError> {
-    let dash = [Declared::flag(Flag::Verbose, Names::Short('-'), "")];
+    let dash = [declare_option!(flag(Flag::Verbose, Names::Short('-'), ""))];
     let (option, reason) = (Names::Short('-'), Reason::DashName);
     match try_options(&archive(&dash, &[])) {
         Ok(_) => Ok(false),

@@ -1,6 +1,8 @@
 //! The declaration that `declare!` makes.
-use crate::archive::{Archive, Flag, Maybe, Value, Values, Word, archive};
-use lexopt_options::{Declared, Names, Positional, declare};
+use crate::archive::{Archive, ArchiveOption, Flag, Maybe, Value, Values, Word};
+use lexopt_options::{
+    Count, Declaration, Declared, Kind, Names, Positional, Words, declare, declare_option,
+};
 use std::alloc::{AllocError, Global};
 
 // Each mark of an option and each count of a positional, by the macro.
@@ -24,30 +26,110 @@ static MARKED: Archive<'static> = declare! {
     ],
 };
 
-// Whether the constructors, which have exact clauses, make the same declaration.
-fn is_made_by_calls(alloc: Global) -> Result<bool, AllocError> {
-    let user = Declared::value(Value::User, Names::Both('u', "user"), "NAME", "whose it is");
-    let backup = Declared::maybe(Maybe::Backup, Names::Long("backup"), "DIR", "keep a copy");
-    let kind = Declared::values(Values::Exclude, Names::Short('x'), "KIND", "not these");
-    let options = [
-        Declared::flag(Flag::Verbose, Names::Both('v', "verbose"), "tell more"),
-        user.text().required(),
-        backup.hidden().directories(),
-        kind.hidden().one_of(&["link", "pipe"]).required(),
-        Declared::help(Names::Long("help")).hidden(),
-        Declared::version(Names::Long("version"), "archive 1.0").required(),
-    ];
-    let positionals = [
-        Positional::once(Word::Source, "SOURCE", "what to pack").one_of(&["a", "b"]),
-        Positional::at_most_once(Word::Target, "TARGET", "").directories(),
-        Positional::any_number(Word::File, "FILE", "more of them").text(),
-        Positional::at_least_once(Word::File, "LAST", "the last ones"),
-    ];
-    let made = archive(&options, &positionals);
-    Ok(format!(in alloc; "{MARKED:?}")? == format!(in alloc; "{made:?}")?)
+// The same declaration, field by field.
+static WRITTEN: Archive<'static> = Declaration {
+    program: "archive",
+    about: "Packs files.",
+    options: &[
+        Declared {
+            names: Names::Both('v', "verbose"),
+            kind: Kind::Flag(Flag::Verbose),
+            help: "tell more",
+            hidden: false,
+            required: false,
+            words: Words::Files,
+        },
+        Declared {
+            names: Names::Both('u', "user"),
+            kind: Kind::Value(Value::User, "NAME"),
+            help: "whose it is",
+            hidden: false,
+            required: true,
+            words: Words::Text,
+        },
+        Declared {
+            names: Names::Long("backup"),
+            kind: Kind::Maybe(Maybe::Backup, "DIR"),
+            help: "keep a copy",
+            hidden: true,
+            required: false,
+            words: Words::Directories,
+        },
+        Declared {
+            names: Names::Short('x'),
+            kind: Kind::Values(Values::Exclude, "KIND"),
+            help: "not these",
+            hidden: true,
+            required: true,
+            words: Words::Listed(&["link", "pipe"]),
+        },
+        Declared {
+            names: Names::Long("help"),
+            kind: Kind::Help,
+            help: "print this help and exit",
+            hidden: true,
+            required: false,
+            words: Words::Files,
+        },
+        Declared {
+            names: Names::Long("version"),
+            kind: Kind::Version("archive 1.0"),
+            help: "print the version and exit",
+            hidden: false,
+            required: true,
+            words: Words::Files,
+        },
+    ],
+    positionals: &[
+        Positional {
+            key: Word::Source,
+            placeholder: "SOURCE",
+            count: Count::Once,
+            help: "what to pack",
+            words: Words::Listed(&["a", "b"]),
+        },
+        Positional {
+            key: Word::Target,
+            placeholder: "TARGET",
+            count: Count::AtMostOnce,
+            help: "",
+            words: Words::Directories,
+        },
+        Positional {
+            key: Word::File,
+            placeholder: "FILE",
+            count: Count::AnyNumber,
+            help: "more of them",
+            words: Words::Text,
+        },
+        Positional {
+            key: Word::File,
+            placeholder: "LAST",
+            count: Count::AtLeastOnce,
+            help: "the last ones",
+            words: Words::Files,
+        },
+    ],
+    epilogue: &[],
+    short_equals: true,
+};
+
+// Whether the macros make what is written.
+fn is_as_written(alloc: Global) -> Result<bool, AllocError> {
+    let exclude: ArchiveOption<'_> = declare_option!(
+        values(Values::Exclude, Names::Short('x'), "KIND", "not these")
+            .hidden()
+            .one_of(&["link", "pipe"])
+            .required()
+    );
+    let written = &WRITTEN.options[3];
+    Ok(
+        format!(in alloc; "{MARKED:?}")? == format!(in alloc; "{WRITTEN:?}")?
+            && format!(in alloc; "{exclude:?}")? == format!(in alloc; "{written:?}")?,
+    )
 }
 
 #[test]
 fn marks(rt: HostRuntime) {
-    assert!(rt; is_made_by_calls(rt.alloc()).expect(&rt, "memory"));
+    assert!(rt; is_as_written(rt.alloc()).expect(&rt, "memory"));
 }
