@@ -2,4 +2,5 @@ pub mod FirstFaults
 pub mod Found
 pub mod Entries
 pub mod LinesRead
-pub mod LeadingRead
+pub mod RestTexts
+pub mod Wholes

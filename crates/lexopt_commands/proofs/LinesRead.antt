@@ -3,15 +3,15 @@ use Rattle.std.proofs.Common.{◌≡◌, ℕ, List, Option, Some, None, subst, s
 use Rattle.std.specs.declared.convert.Infallible.{Infallible}
 use Rattle.lexopt_options_spec.specs.Asking.{first_asked}
 use Rattle.lexopt_options_spec.specs.Declaration as spec
-use Rattle.lexopt_options_spec.specs.Leading.{MeansLeading}
+use Rattle.lexopt_options_spec.specs.Rest.{MeansBefore}
 use Rattle.lexopt_options_spec.specs.Legal as legal
-use Rattle.lexopt_commands.specs.declared.leading.Leading.{Leading}
 use Rattle.lexopt_options.specs.declared.mistake.Mistake.{Mistake}
 use Rattle.lexopt_options.specs.declared.options.Options.{Options}
 use Rattle.lexopt_options.specs.declared.parsed.Parsed.{Parsed}
 use Rattle.lexopt_options.specs.Declarations.{declaration_of, options_of}
 use Rattle.lexopt_options.specs.Keys.{AreParsedAs, asked_view}
-use Rattle.lexopt_commands.specs.LeadingLines.{IsLeadingOf}
+use Rattle.lexopt_options.specs.declared.refused.Line.{Line}
+use Rattle.lexopt_options.specs.RestLines.{IsRestOf}
 use Rattle.lexopt_commands.specs.declared.commands.Commands.{Commands}
 use Rattle.lexopt_commands.specs.declared.read.CommandLine.{CommandLine}
 use Rattle.lexopt_commands.specs.declared.read.CommandLine.TheVariants as line
@@ -24,12 +24,12 @@ use Rattle.lexopt_commands.proofs.Found.{each_found}
 use Rattle.std.specs.Prelude.{slice_get}
 
 -- what is read, for each list of options and each rest that the words mean
-abbrev pub IsOfEach : {F V M S : Type 0} → Options F V Infallible M S → List (List ℕ) → Leading F V Infallible M S → Type 0
-IsOfEach o words found = (l : List legal.Parsed) (rest : List (List ℕ)) → MeansLeading (declaration_of o) words l rest → IsLeadingOf o l rest found
+abbrev pub IsOfEach : {F V M S : Type 0} → Options F V Infallible M S → List (List ℕ) → Line F V Infallible M S → List (List ℕ) → Type 0
+IsOfEach o words found others = (l : List legal.Parsed) (rest : List (List ℕ)) → MeansBefore (declaration_of o) words l rest → IsRestOf o l rest others found
 
 -- the same, for the options and the result that calls return
-pub of_each : {F V M S : Type 0} (o own : Options F V Infallible M S) (words : List (List ℕ)) (found it : Leading F V Infallible M S) → o ≡ own → found ≡ it → IsOfEach o words found → IsOfEach own words it
-of_each o own words found it same is of = subst (λ f. IsOfEach own words f) is (subst (λ x. IsOfEach x words found) same of)
+pub of_each : {F V M S : Type 0} (o own : Options F V Infallible M S) (words others : List (List ℕ)) (found it : Line F V Infallible M S) → o ≡ own → found ≡ it → IsOfEach o words found others → IsOfEach own words it others
+of_each o own words others found it same is of = subst (λ f. IsOfEach own words f others) is (subst (λ x. IsOfEach x words found others) same of)
 
 same_asked : (one : Option spec.Asked) (asked own : spec.Asked) → one ≡ Some own → one ≡ Some asked → own ≡ asked
 same_asked one asked own is too = let e : Some own ≡ Some asked = sym is ∙ too in cc

@@ -7,7 +7,8 @@ use Rattle.std.specs.Str.{chars}
 use Rattle.lexopt_options_spec.specs.Help.{line_feed}
 use Rattle.lexopt_declaration.specs.Texts.{on_one_line}
 use Rattle.lexopt_options.specs.Answers.{IsCompletionText}
-use Rattle.lexopt_options.specs.Begun.{HaveNoRest, HaveRest, TellsFirst}
+use Rattle.lexopt_options_spec.specs.Rest.{HaveNoRest, IsSplit}
+use Rattle.lexopt_options.specs.Begun.{TellsRest}
 use Rattle.lexopt_options.specs.Declarations.{declaration_of}
 use Rattle.lexopt_commands.specs.declared.answer.Step.{Step}
 use Rattle.lexopt_commands.specs.declared.answer.Step.TheVariants as step
@@ -36,7 +37,7 @@ names_if c typed can = if can then flat_map (begun_line typed) c.commands.now el
 -- the same, by whether a name can come after these words
 abbrev pub IsNamesText : {C F V M S : Type 0} → Commands C F V M S → List (List ℕ) → List ℕ
     → List ℕ → Type 0
-IsNamesText c words typed text = (can : Bool) × TellsFirst (declaration_of c.options) words can
+IsNamesText c words typed text = (can : Bool) × TellsRest (declaration_of c.options) words can
     × (text ≡ names_if c typed can)
 
 -- ---- where a word is typed
@@ -91,13 +92,14 @@ IsPlaced c typed at_help (step.Text text) =
 IsPlaced c typed nowhere (step.Text text) = string_bytes text ≡ []
 IsPlaced c typed place found = ⊥
 
--- The words legally spell general options that ask for nothing, and then comes a rest, which has a
--- word. By the rest the place is found.
+-- The words are general options, and then comes a rest, by which the place is found.
 pub record IsPlacedAfter {C F V M S : Type 0} (c : Commands C F V M S)
     (words : List (List ℕ)) (typed : List ℕ) (found : Step C F V M S) : Type 0 where
-  pub rest : List (List ℕ)
-  pub have_rest : HaveRest (declaration_of c.options) words rest
-  pub placed : IsPlaced c typed (place c.commands.now rest) found
+  pub front : List (List ℕ)
+  pub word : List ℕ
+  pub more : List (List ℕ)
+  pub split : IsSplit (declaration_of c.options) words front word more
+  pub placed : IsPlaced c typed (place c.commands.now (word ∷ more)) found
 
 -- this text is printed
 abbrev pub IsText : {C F V M S : Type 0} → Step C F V M S → List ℕ → Type 0

@@ -1,11 +1,11 @@
 -- The help of a program with commands: that of its general options, with an entry for each command.
 -- The source is `docs/behaviour.md`.
-use Rattle.std.specs.Prelude.{◌≡◌, ℕ, List, [], ◌∷◌, ◌++◌, codes}
+use Rattle.std.specs.Prelude.{◌≡◌, ℕ, false, List, [], ◌∷◌, ◌++◌, codes}
 use Rattle.std.specs.List.{AllZip, concat, flat_map}
 use Rattle.lexopt_options_spec.specs.Declaration.{Count, Declaration, Positional, any_number, files}
 use Rattle.lexopt_options_spec.specs.Declaration.{once}
-use Rattle.lexopt_options_spec.specs.Help.{IsEntry, IsParagraph, IsUsage, label}
-use Rattle.lexopt_options_spec.specs.Help.{set_apart, with_list, visible}
+use Rattle.lexopt_options_spec.specs.Help.{IsEntry, IsOption, IsParagraph, IsUsage, options_part}
+use Rattle.lexopt_options_spec.specs.Help.{set_apart, visible}
 use Rattle.lexopt_commands.specs.declared.command.Command.{Command}
 
 -- a positional that only the usage line shows
@@ -15,6 +15,7 @@ usage_positional placeholder count = record {
   count = count;
   help = [];
   words = files;
+  hides_list = false;
 }
 
 -- the general options, with the name of a command and its arguments as positionals
@@ -24,7 +25,7 @@ with_command d = record d {
       ∷ usage_positional (codes "ARGUMENT") any_number ∷ [];
 }
 
--- the text is the help: the usage line; what the program does; an entry for each command, and for
+-- the text is the help: the usage; what the program does; an entry for each command, and for
 -- each option that is not hidden; and the paragraphs of the epilogue
 pub record IsHelp {C : Type 0} (d : Declaration) (list : List (Command C)) (width : ℕ)
     (text : List ℕ) : Type 0 where
@@ -36,8 +37,7 @@ pub record IsHelp {C : Type 0} (d : Declaration) (list : List (Command C)) (widt
   pub usage_first : IsUsage width (with_command d) usage
   pub about_next : IsParagraph width d.about about
   pub each_command : AllZip (λ c. IsEntry width c.name.now c.help.now) list commands
-  pub each_option :
-      AllZip (λ o. IsEntry width (label o) (with_list o.help o.words)) (visible d.options) options
+  pub each_option : AllZip (IsOption width) (visible d.options) options
   pub each_paragraph : AllZip (IsParagraph width) d.epilogue epilogue
-  pub written : text ≡ usage ++ about ++ set_apart (concat commands) ++ set_apart (concat options)
-      ++ flat_map set_apart epilogue
+  pub written : text ≡ usage ++ about ++ set_apart (concat commands)
+      ++ options_part (concat options) ++ flat_map set_apart epilogue

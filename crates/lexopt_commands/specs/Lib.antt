@@ -8,4 +8,4 @@ pub mod Help
 pub mod Calls
 pub mod Answers
 pub mod Completions
-pub mod LeadingLines
+pub mod Wrappers

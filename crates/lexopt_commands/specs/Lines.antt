@@ -1,19 +1,20 @@
 -- The results of reading a line of a program with commands: the general options, and what the words
 -- after them mean. The source is `docs/behaviour.md`.
-use Rattle.std.specs.Prelude.{◌≡◌, ◌⊎◌, ℕ, List, Some, None}
+use Rattle.std.specs.Prelude.{◌≡◌, ◌⊎◌, ℕ, List, Some, None, Vec}
+use Rattle.std.specs.Global.{Global}
 use Rattle.std.specs.declared.convert.Infallible.{Infallible}
 use Rattle.lexopt_options_spec.specs.Asking.{first_asked}
 use Rattle.lexopt_options_spec.specs.Declaration as spec
-use Rattle.lexopt_options_spec.specs.Leading.{AsksLeading, MeansLeading}
 use Rattle.lexopt_options_spec.specs.Legal as legal
 use Rattle.lexopt_declaration.specs.Lookups.{help_names}
 use Rattle.lexopt_options.specs.declared.options.Options.{Options}
 use Rattle.lexopt_options.specs.declared.parsed.Asked.TheVariants.{Help}
 use Rattle.lexopt_options.specs.declared.parsed.Parsed.{Parsed}
+use Rattle.lexopt_options.specs.declared.refused.Line.TheVariants as front
 use Rattle.lexopt_options.specs.declared.refused.Refused.{Refused}
 use Rattle.lexopt_options.specs.Declarations.{declaration_of, options_of}
 use Rattle.lexopt_options.specs.Keys.{AreParsedAs, asked_view}
-use Rattle.lexopt_commands.specs.LeadingLines.{IsLeadingRefused}
+use Rattle.lexopt_options.specs.RestLines.{IsRestRead}
 use Rattle.lexopt_commands.specs.declared.commands.Commands.{Commands}
 use Rattle.lexopt_commands.specs.declared.read.CommandLine.{CommandLine}
 use Rattle.lexopt_commands.specs.declared.read.CommandLine.TheVariants as line
@@ -39,17 +40,14 @@ IsLineAfter c parsed rest (line.Command own name key words) =
 IsLineAfter c parsed rest (line.Asked asked) = (meaning c.commands.now rest ≡ help) × (asked ≡ Help)
 IsLineAfter c parsed rest (line.Refused refused) = IsRefusedAfter c parsed rest refused
 
--- The words legally spell general options that ask for nothing, and then comes a rest. This is the
--- result by both.
+-- The words are general options that mean this and ask for nothing, and then a rest, which may be
+-- empty. This is the result by both.
 pub record IsAfterOptions {C F V M S : Type 0} (c : Commands C F V M S)
     (words : List (List ℕ)) (line : CommandLine C F V M S) : Type 0 where
-  pub read : List legal.Parsed
   pub rest : List (List ℕ)
-  pub means : MeansLeading (declaration_of c.options) words read rest
-  pub nothing : first_asked (declaration_of c.options).options read ≡ None
-  pub parsed : List (Parsed F V Infallible M S)
-  pub are : AreParsedAs (options_of c.options) read parsed
-  pub after : IsLineAfter c parsed rest line
+  pub parsed : Vec (Parsed F V Infallible M S) Global
+  pub read : IsRestRead c.options words rest (front.Parsed parsed)
+  pub after : IsLineAfter c parsed.items rest line
 
 -- ---- by the general options alone
 
@@ -57,8 +55,10 @@ pub record IsAfterOptions {C F V M S : Type 0} (c : Commands C F V M S)
 abbrev pub IsByOptions : {C F V M S : Type 0} → Options F V Infallible M S → List (List ℕ)
     → CommandLine C F V M S → Type 0
 IsByOptions o words (line.Command parsed name key own) = ⊥
-IsByOptions o words (line.Asked asked) = AsksLeading (declaration_of o) words (asked_view asked)
-IsByOptions o words (line.Refused refused) = IsLeadingRefused o words refused
+IsByOptions o words (line.Asked asked) =
+    (rest : List (List ℕ)) × IsRestRead o words rest (front.Asked asked)
+IsByOptions o words (line.Refused refused) =
+    (rest : List (List ℕ)) × IsRestRead o words rest (front.Refused refused)
 
 -- ---- all
 

@@ -152,18 +152,19 @@ impl<'a, C: Copy, F: Copy, V: Copy, M: Copy, S: Copy> Commands<'a, C, F, V, M, S
     /// Returns what the program has to do about a request.
     ///
     /// - [`Request::Line`]: what [`Commands::answer`] returns.
-    /// - [`Request::Completion`] after general options that ask for nothing, and the name of a
-    ///   command: ask the command what can come, by [`Step::Command`]. One name that asks for the
-    ///   help may come before the name of the command.
-    /// - [`Request::Completion`] right after such options: print a line for each command whose name
-    ///   begins with what was typed, if a name can come there, and then what
+    /// - [`Request::Completion`] after general options and the name of a command: ask the command
+    ///   what can come, by [`Step::Command`]. One name that asks for the help may come before the
+    ///   name of the command. Whether a required option is missing, an option accepts its value, or
+    ///   one asks for the help, makes no difference.
+    /// - [`Request::Completion`] right after general options: print a line for each command whose
+    ///   name begins with what was typed, if a name can come there, and then what
     ///   `Options::completion_text` returns by the general declaration.
-    /// - [`Request::Completion`] right after such options and a name that asks for the help: print
-    ///   a line for each command whose name begins with what was typed.
-    /// - [`Request::Completion`] after such options and any other word, or after a name that asks
-    ///   for the help and any other word: print nothing.
-    /// - [`Request::Completion`] anywhere else, for example while a required general option is
-    ///   missing: print what `Options::completion_text` returns by the general declaration.
+    /// - [`Request::Completion`] right after general options and a name that asks for the help:
+    ///   print a line for each command whose name begins with what was typed.
+    /// - [`Request::Completion`] after general options and any other word, or after a name that
+    ///   asks for the help and any other word: print nothing.
+    /// - [`Request::Completion`] anywhere else: print what `Options::completion_text` returns by
+    ///   the general declaration.
     /// - [`Request::Script`]: print what `Options::script` returns.
     /// - [`Request::Unknown`]: refuse it.
     ///

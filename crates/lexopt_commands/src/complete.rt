@@ -9,10 +9,9 @@ use crate::answer::Step;
 use crate::call::Call;
 use crate::command::{Command, Runs};
 use crate::commands::Commands;
-use crate::leading::{LeadingCompletion, complete_leading};
 use crate::read::{command_of, take_first};
 use lexopt_declaration::message::push_help;
-use lexopt_options::Request;
+use lexopt_options::{Request, RestCompletion, complete_rest};
 use lexopt_words::os_string::OsString;
 use std::alloc::{AllocError, Global};
 
@@ -157,13 +156,10 @@ impl<'a, C: Copy, F: Copy, V: Copy, M: Copy, S: Copy> Commands<'a, C, F, V, M, S
     ) -> Result<Step<'a, C, F, V, M, S>, AllocError>
         ensures { IfOk result (λ step. IsCompletionStep self.now words.items typed step) }
     {
-        match complete_leading(alloc, &self.options(), words, &typed)? {
-            LeadingCompletion::Rest(rest) => self.placed_step(alloc, rest, typed),
-            LeadingCompletion::Text {
-                text,
-                can_come_first,
-            } => {
-                let mut all = self.names_if(alloc, can_come_first, &typed)?;
+        match complete_rest(alloc, &self.options(), words, &typed)? {
+            RestCompletion::Rest(rest) => self.placed_step(alloc, rest, typed),
+            RestCompletion::Text { text, begins_rest } => {
+                let mut all = self.names_if(alloc, begins_rest, &typed)?;
                 all.push_str(text.as_str())?;
                 Ok(Step::Text(all))
             }

@@ -10,7 +10,7 @@ ghost use Rattle.lexopt_commands.specs.Help.{IsHelp, usage_positional, with_comm
 use crate::command::Command;
 use crate::commands::Commands;
 use lexopt_declaration::help::{
-    option_entries, push_apart, push_described, push_epilogue, push_paragraph, usage,
+    push_apart, push_described, push_epilogue, push_options, push_paragraph, usage,
 };
 use lexopt_options::{Count, Declaration, Options, Positional, Words};
 use std::alloc::{AllocError, Global};
@@ -43,10 +43,11 @@ fn usage_positional(placeholder: &str, count: Count) -> Positional<'_, ()>
         count,
         help: "",
         words: Words::Files,
+        hides_list: false,
     }
 }
 
-// The usage line, wrapped to `width` columns: that of the general declaration with `COMMAND` and
+// The usage, wrapped to `width` columns: that of the general declaration with `COMMAND` and
 // `ARGUMENT` as its positionals. It shows none of the parts that are copied only to make a
 // declaration.
 fn usage_of<F, V, M, S>(
@@ -60,6 +61,7 @@ fn usage_of<F, V, M, S>(
     let declaration: Declaration<'_, F, V, (), M, S> = Declaration {
         program: options.program(),
         about: options.about(),
+        usage: options.usage_texts(),
         options: options.options(),
         positionals: &[
             usage_positional("COMMAND", Count::Once),
@@ -85,8 +87,7 @@ fn help_of<C, F, V, M, S>(
     push_paragraph(&mut text, alloc, options.about(), width)?;
     let entries = command_entries(alloc, commands, width)?;
     push_apart(&mut text, entries.as_str())?;
-    let declared = option_entries(alloc, options.options(), width)?;
-    push_apart(&mut text, declared.as_str())?;
+    push_options(&mut text, alloc, options.options(), width)?;
     push_epilogue(&mut text, alloc, options.epilogue(), width)?;
     Ok(text)
 }
@@ -97,8 +98,9 @@ impl<C, F, V, M, S> Commands<'_, C, F, V, M, S> {
     ghost use Rattle.lexopt_options.specs.Declarations.{declaration_of};
     ghost use Rattle.lexopt_commands.specs.Help.{IsHelp, with_command};
 
-    /// Returns the usage line of the program, wrapped to `width` columns, with a line feed at its
-    /// end: that of the general options, and then `COMMAND` and `[ARGUMENT]...`.
+    /// Returns the usage of the program, wrapped to `width` columns: that of the general options
+    /// (`Options::usage` of `lexopt_options`). A usage line that is generated ends with `COMMAND`
+    /// and `[ARGUMENT]...`.
     ///
     /// # Errors
     ///
@@ -118,10 +120,10 @@ impl<C, F, V, M, S> Commands<'_, C, F, V, M, S> {
 
     /// Returns the help of the program, wrapped to `width` columns.
     ///
-    /// It is that of the general options (`Options::help` of `lexopt_options`), with `COMMAND` and
-    /// `[ARGUMENT]...` at the end of the usage line, and with an entry for each command, whose
-    /// label is the name. These entries are in the order of the declaration, before those of the
-    /// options, with an empty line before the first.
+    /// It is that of the general options (`Options::help` of `lexopt_options`), with the usage that
+    /// [`Commands::usage`] returns, and with an entry for each command, whose label is the name.
+    /// These entries are in the order of the declaration, before those of the options, with an
+    /// empty line before the first.
     ///
     /// # Errors
     ///

@@ -177,8 +177,8 @@
 //! - [`Commands::answer`] reads words of the program's own, as a test does; [`Commands::read`]
 //!   returns the request for the help, and the mistake, as values; and [`Commands::help`] and
 //!   [`Commands::usage`] return the help and its usage line.
-//! - [`read_leading`] is for a line that goes on with the words of another program, as that of
-//!   `env` does.
+//! - [`Wrapper`] is for a program that runs another one, such as `timeout`: its line goes on with the
+//!   command line of that program, which shells complete as such.
 //!
 //! A shell completes the lines of `notes` after `source <(_NOTES_COMPLETE=bash_source notes)` in
 //! the start-up file of bash; `lexopt_options` has the lines for zsh and fish.
@@ -197,15 +197,15 @@ mod complete;
 mod declare;
 mod examples;
 pub mod help;
-pub mod leading;
 pub mod read;
+pub mod wrapper;
 
 pub use answer::Step;
 pub use call::Call;
 pub use command::{Command, CommandError, Reason, Runs};
 pub use commands::Commands;
-pub use leading::{Leading, LeadingCompletion, complete_leading, read_leading};
 pub use read::CommandLine;
+pub use wrapper::{Rest, Wrapper, WrapperAnswer};
 
 // What else a program that declares commands needs.
 pub use lexopt_options::{BROKEN_PIPE, columns, finish};

@@ -12,10 +12,9 @@ ghost use Rattle.lexopt_commands.specs.Views.{meaning_view};
 
 use crate::command::{Command, Runs, is_named};
 use crate::commands::Commands;
-use crate::leading::{Leading, read_leading};
 use lexopt_declaration::lookup::help_names_of;
 use lexopt_declaration::nearest::hinted_names;
-use lexopt_options::{Asked, Mistake, Parsed, Refused};
+use lexopt_options::{Asked, Line, Mistake, Parsed, Refused, read_rest};
 use lexopt_words::codepoint::lossy_text;
 use lexopt_words::os_string::OsString;
 use std::alloc::{AllocError, Global};
@@ -234,7 +233,7 @@ impl<'a, C, F, V, M, S> Commands<'a, C, F, V, M, S> {
 impl<'a, C: Copy, F: Copy, V: Copy, M: Copy, S: Copy> Commands<'a, C, F, V, M, S> {
     ghost use Rattle.std.specs.Prelude.{◌≡◌, ◌∷◌, ℕ, IfOk, List, None, Some, slice_get};
     ghost use Rattle.lexopt_options_spec.specs.Asking.{first_asked};
-    ghost use Rattle.lexopt_options_spec.specs.Leading.{MeansLeading};
+    ghost use Rattle.lexopt_options_spec.specs.Rest.{MeansBefore};
     ghost use Rattle.lexopt_options_spec.specs.Legal as legal;
     ghost use Rattle.lexopt_options.specs.Declarations.{declaration_of};
     ghost use Rattle.lexopt_commands.specs.declared.command.Command as one;
@@ -268,8 +267,8 @@ impl<'a, C: Copy, F: Copy, V: Copy, M: Copy, S: Copy> Commands<'a, C, F, V, M, S
     /// Reads a line up to the name of a command.
     ///
     /// The words are without the name of the program. This call consumes them. The general options
-    /// come first, as [`read_leading`] reads them. The word after them is the name of a
-    /// command. All other words are for that command, and are not read.
+    /// come first. The word after them is the name of a command. All other words are for that
+    /// command, and are not read.
     ///
     /// After a name that asks for the help ([`Runs::Help`]), such as `help`, the next word is the
     /// name of a command: `help add` means `add --help`, and `help remote add` means
@@ -313,7 +312,7 @@ impl<'a, C: Copy, F: Copy, V: Copy, M: Copy, S: Copy> Commands<'a, C, F, V, M, S
 
         // If the words are general options and a rest, this is what those mean.
         ensures answered { (l : List legal.Parsed) (rest : List (List ℕ))
-            → MeansLeading (declaration_of self.now.options) words.items l rest
+            → MeansBefore (declaration_of self.now.options) words.items l rest
             → IfOk result (λ line. IsLineOf self.now l rest line) }
 
         // If the words are general options that ask for nothing, the name of a command and words
@@ -321,14 +320,15 @@ impl<'a, C: Copy, F: Copy, V: Copy, M: Copy, S: Copy> Commands<'a, C, F, V, M, S
         ensures named { (i : ℕ) (own : one.Command C) (key : C) (l : List legal.Parsed)
             (rest : List (List ℕ)) → slice_get self.now.commands.now i ≡ Some own
             → own.runs ≡ runs.Command key
-            → MeansLeading (declaration_of self.now.options) words.items l (own.name.now ∷ rest)
+            → MeansBefore (declaration_of self.now.options) words.items l (own.name.now ∷ rest)
             → first_asked (declaration_of self.now.options).options l ≡ None
             → IfOk result (λ line. IsCommandLine self.now l own.name.now key rest line) }
     {
-        match read_leading(alloc, &self.options(), words)? {
-            Leading::Parsed(parsed, rest) => self.end(alloc, parsed, rest),
-            Leading::Asked(asked) => Ok(CommandLine::Asked(asked)),
-            Leading::Refused(refused) => Ok(CommandLine::Refused(refused)),
+        let (line, rest) = read_rest(alloc, &self.options(), words)?;
+        match line {
+            Line::Parsed(parsed) => self.end(alloc, parsed, rest),
+            Line::Asked(asked) => Ok(CommandLine::Asked(asked)),
+            Line::Refused(refused) => Ok(CommandLine::Refused(refused)),
         }
     }
 }

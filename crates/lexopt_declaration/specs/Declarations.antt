@@ -8,6 +8,7 @@ abbrev pub declaration_view : {F V P M S : Type 0} → Declaration F V P M S →
 declaration_view d = record {
   program = d.program.now;
   about = d.about.now;
+  usage = map (λ text. text.now) d.usage.now;
   options = map option_view d.options.now;
   positionals = map positional_view d.positionals.now;
   epilogue = map (λ paragraph. paragraph.now) d.epilogue.now;

@@ -1,6 +1,9 @@
 -- The option at an index, by the types of the code.
 use Rattle.std.specs.Prelude.{ℕ, Bool, true, false, List, Option, Some, None, option_map, position}
 use Rattle.std.specs.Prelude.{slice_get}
+use Rattle.std.specs.List.{list_any}
+use Rattle.lexopt_options_spec.specs.Declaration.{share}
+use Rattle.lexopt_declaration.specs.Models.{names_list}
 use Rattle.lexopt_declaration.specs.declared.declaration.Declared.{Declared}
 use Rattle.lexopt_declaration.specs.declared.declaration.Kind.{Kind}
 use Rattle.lexopt_declaration.specs.declared.declaration.Kind.TheVariants.{Help}
@@ -10,6 +13,10 @@ use Rattle.lexopt_declaration.specs.declared.declaration.Names.{Names}
 abbrev pub names_at : {F V M S : Type 0} → List (Declared F V M S) → Option ℕ → Option Names
 names_at options None = None
 names_at options (Some i) = option_map (λ o. o.names) (slice_get options i)
+
+-- one of the option's further names is one of these
+abbrev pub has_alias : {F V M S : Type 0} → Names → Declared F V M S → Bool
+has_alias names o = list_any (λ a. share (names_list names) (names_list a)) o.aliases.now
 
 abbrev pub is_help : {F V M S : Type 0} → Kind F V M S → Bool
 is_help Help = true

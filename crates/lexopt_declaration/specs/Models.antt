@@ -1,6 +1,9 @@
 -- A declaration as contracts see it.
-use Rattle.std.specs.Prelude.{ℕ, List, [], Option, Some, None, map, string_bytes}
+use Rattle.std.specs.Prelude.{ℕ, List, [], ◌∷◌, Option, Some, None, map, string_bytes}
+use Rattle.std.specs.List.{flat_map}
+use Rattle.lexopt_line_spec.specs.Table.{Name, short, long}
 use Rattle.lexopt_line_spec.specs.Table.{Kind as SpecKind, flag, one, optional, several}
+use Rattle.lexopt_options_spec.specs.Completion.{IsText}
 use Rattle.lexopt_options_spec.specs.Declaration as spec
 use Rattle.lexopt_options_spec.specs.Declaration.{Asked, for_help, for_version}
 use Rattle.lexopt_declaration.specs.declared.declaration.Names.{Names}
@@ -29,6 +32,17 @@ abbrev pub long_name : Names → Option (List ℕ)
 long_name (Short c) = None
 long_name (Long name) = Some name.now
 long_name (Both c name) = Some name.now
+
+-- the names, in order
+abbrev pub names_list : Names → List Name
+names_list (Short c) = short c ∷ []
+names_list (Long name) = long name.now ∷ []
+names_list (Both c name) = short c ∷ long name.now ∷ []
+
+-- these names are text
+abbrev pub AreAllText : List Name → Type 0
+AreAllText [] = Unit {0}
+AreAllText (n ∷ ns) = IsText n × AreAllText ns
 
 abbrev pub arity_kind : Arity → SpecKind
 arity_kind Zero = flag
@@ -75,9 +89,12 @@ option_view o = record {
   placeholder = placeholder_of o.kind;
   help = o.help.now;
   asks = asked_of o.kind;
+  heading = o.heading.now;
   hidden = o.hidden;
   required = o.required;
   words = words_view o.words;
+  hides_list = o.hides_list;
+  aliases = flat_map names_list o.aliases.now;
 }
 
 abbrev pub spelling_view : Spelling → List ℕ × List ℕ
@@ -95,4 +112,5 @@ positional_view p = record {
   count = count_view p.count;
   help = p.help.now;
   words = words_view p.words;
+  hides_list = p.hides_list;
 }

@@ -3,7 +3,7 @@ ghost use Rattle.std.specs.Prelude.{◌≡◌, ◌∷◌, [], map};
 ghost use Rattle.std.specs.Char.{IsScalar};
 ghost use Rattle.std.specs.Str.{IsUtf8};
 ghost use Rattle.lexopt_options_spec.specs.Completion.{AreText};
-ghost use Rattle.lexopt_declaration.specs.Models.{option_view};
+ghost use Rattle.lexopt_declaration.specs.Models.{AreAllText, names_list, option_view};
 
 use crate::message::Escaped;
 use lexopt_words::message::write_escaped;
@@ -46,8 +46,9 @@ impl fmt::Display for Names<'_> {
 
 impl<'a> Names<'a> {
     ghost use Rattle.std.specs.Prelude.{◌≡◌, Some, option_map};
-    ghost use Rattle.lexopt_options_spec.specs.Declaration as spec;
-    ghost use Rattle.lexopt_declaration.specs.Models.{long_name, short_name};
+    ghost use Rattle.lexopt_line_spec.specs.Table.{long, short};
+    ghost use Rattle.lexopt_options_spec.specs.Declaration.{is_one_of, share};
+    ghost use Rattle.lexopt_declaration.specs.Models.{long_name, names_list, short_name};
 
     /// Returns the character, if there is one.
     pub fn short(self) -> Option<char>
@@ -71,22 +72,33 @@ impl<'a> Names<'a> {
 
     /// Returns whether this is its character.
     pub fn is_short(self, character: char) -> bool
-        ensures { result ≡ spec.is_short character (short_name self.entry) }
+        ensures { result ≡ is_one_of (names_list self.entry) (short character) }
     {
-        match self.short() {
-            Some(own) => own == character,
-            None => false,
+        match self {
+            Names::Short(own) | Names::Both(own, _) => own == character,
+            Names::Long(_) => false,
         }
     }
 
     /// Returns whether this is its name, without the dashes.
     #[inline(always)]
     pub fn is_long(self, name: &str) -> bool
-        ensures { result ≡ spec.is_long name.now (long_name self.entry) }
+        ensures { result ≡ is_one_of (names_list self.entry) (long name.now) }
     {
-        match self.long() {
-            Some(own) => own == name,
-            None => false,
+        match self {
+            Names::Long(own) | Names::Both(_, own) => own == name,
+            Names::Short(_) => false,
+        }
+    }
+
+    /// Returns whether the others have its character or its name.
+    pub fn shares(self, others: Names<'_>) -> bool
+        ensures { result ≡ share (names_list self.entry) (names_list others.entry) }
+    {
+        match self {
+            Names::Short(character) => others.is_short(character),
+            Names::Long(name) => others.is_long(name),
+            Names::Both(character, name) => others.is_short(character) || others.is_long(name),
         }
     }
 }
@@ -202,6 +214,9 @@ pub struct Declared<'a, F, V = Infallible, M = Infallible, S = Infallible> {
     /// Its help text. The help wraps it at spaces, of which several count as one. Shells show it as
     /// it is, with a space for each control character of ASCII.
     pub help: &'a str,
+    /// The heading in the help for this option and those after it, up to the next that has one. It
+    /// is left out with an option that is hidden. It is empty if the option has none.
+    pub heading: &'a str,
     /// Whether the help and its usage line leave it out, shells do not offer its names, and no hint
     /// has its long name. Lines may have it all the same.
     pub hidden: bool,
@@ -209,6 +224,11 @@ pub struct Declared<'a, F, V = Infallible, M = Infallible, S = Infallible> {
     pub required: bool,
     /// What its values may be. The help shows a list, even that of a flag, which has no values.
     pub words: Words<'a>,
+    /// Whether the help leaves out the list.
+    pub hides_list: bool,
+    /// Further names, by which lines may have it too. The help, messages, hints and shells show its
+    /// own names only.
+    pub aliases: &'a [Names<'a>],
 }
 
 impl<F: Copy, V: Copy, M: Copy, S: Copy> Clone for Declared<'_, F, V, M, S> {
@@ -223,9 +243,12 @@ impl<F: Copy, V: Copy, M: Copy, S: Copy> Clone for Declared<'_, F, V, M, S> {
             names: self.names,
             kind: self.kind.clone()?,
             help: self.help,
+            heading: self.heading,
             hidden: self.hidden,
             required: self.required,
             words: self.words,
+            hides_list: self.hides_list,
+            aliases: self.aliases,
         })
     }
 }
@@ -254,11 +277,13 @@ pub struct Positional<'a, P> {
     pub placeholder: &'a str,
     /// How often it may occur.
     pub count: Count,
-    /// Its help text, which may be empty. If it has no word, and the positional has no list, the
-    /// help has no entry for the positional.
+    /// Its help text, which may be empty. If it has no word, and the help shows no list of the
+    /// positional, the help has no entry for it.
     pub help: &'a str,
     /// What its words may be. The help shows a list.
     pub words: Words<'a>,
+    /// Whether the help leaves out the list.
+    pub hides_list: bool,
 }
 
 impl<P: Copy> Clone for Positional<'_, P> {
@@ -275,6 +300,7 @@ impl<P: Copy> Clone for Positional<'_, P> {
             count: self.count,
             help: self.help,
             words: self.words,
+            hides_list: self.hides_list,
         })
     }
 }
@@ -301,6 +327,9 @@ pub struct Declaration<'a, F, V = Infallible, P = Infallible, M = Infallible, S 
     pub program: &'a str,
     /// What the program does, in a sentence or two; maybe the empty text.
     pub about: &'a str,
+    /// What comes after the name in each usage line of the help. If it is empty, the help has one
+    /// usage line, which is generated.
+    pub usage: &'a [&'a str],
     /// Its options. The help has them in this order.
     pub options: &'a [Declared<'a, F, V, M, S>],
     /// Its positionals, in the order in which lines have them.
@@ -347,8 +376,8 @@ impl<F, V, M, S> Clone for Group<'_, F, V, M, S> {
 
 impl<F, V, M, S> Copy for Group<'_, F, V, M, S> {}
 
-// States that a character is a Unicode scalar value. This and the next three functions do nothing:
-// they are there for their clauses.
+// States that a character is a Unicode scalar value. This and the functions below do nothing: they
+// are there for their clauses.
 fn character_is_text(character: char)
     ensures { IsScalar character }
 {}
@@ -358,17 +387,27 @@ fn name_is_text(name: &str)
     ensures { IsUtf8 name.now }
 {}
 
-// States that the names of an option are text.
-fn option_is_text<F, V, M, S>(option: &Declared<'_, F, V, M, S>)
-    ensures { AreText (option_view option.now ∷ []) }
+// States that these names are text.
+fn names_are_text(names: Names<'_>)
+    ensures { AreAllText (names_list names.entry) }
 {
-    match option.names {
+    match names {
         Names::Short(character) => character_is_text(character),
         Names::Long(name) => name_is_text(name),
         Names::Both(character, name) => {
             character_is_text(character);
             name_is_text(name);
         }
+    }
+}
+
+// States that the names of an option are text.
+fn option_is_text<F, V, M, S>(option: &Declared<'_, F, V, M, S>)
+    ensures { AreText (option_view option.now ∷ []) }
+{
+    names_are_text(option.names);
+    for names in option.aliases {
+        names_are_text(*names);
     }
 }
 

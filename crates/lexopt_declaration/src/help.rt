@@ -1,10 +1,11 @@
 //! The help of declared options, in the form that the GNU Coding Standards give `--help`, and laid
 //! out like that of `ls`. The file of this name in `lexopt_commands` adds the commands.
-ghost use Rattle.std.specs.Prelude.{◌≡◌, ◌≤◌, ◌+◌, ◌-◌, ◌∷◌, ◌++◌, ◌&&◌, [], List, ℕ, IfOk, OnOk, nat_lt};
-ghost use Rattle.std.specs.Prelude.{if◌then◌else◌, codes, length, map, not, string_bytes};
-ghost use Rattle.std.specs.List.{AllZip, concat, flat_map, list_any};
+ghost use Rattle.std.specs.Prelude.{◌≡◌, ◌≤◌, ◌+◌, ◌-◌, ◌∷◌, ◌++◌, ◌&&◌, ◌==◌, [], List, ℕ, IfOk, OnOk};
+ghost use Rattle.std.specs.Prelude.{if◌then◌else◌, codes, length, map, nat_lt, not, string_bytes};
+ghost use Rattle.std.specs.List.{AllZip, concat, flat_map, list_any, starts_with};
 ghost use Rattle.lexopt_options_spec.specs.Help as spec;
-ghost use Rattle.lexopt_options_spec.specs.Help.{IsEntry, IsHelp, IsParagraph, IsUsage, Wraps};
+ghost use Rattle.lexopt_options_spec.specs.Help.{IsEntry, IsHelp, IsOption, IsParagraph, IsUsage};
+ghost use Rattle.lexopt_options_spec.specs.Help.{IsUsageLine, Wraps};
 ghost use Rattle.lexopt_declaration.specs.Models.{arity_kind, arity_placeholder, long_name, option_view};
 ghost use Rattle.lexopt_declaration.specs.Models.{positional_view, short_name, words_view};
 ghost use Rattle.lexopt_declaration.specs.Declarations.{declaration_view};
@@ -247,7 +248,7 @@ fn is_sentence(text: &str) -> bool
     text.as_bytes().ends_with(b".")
 }
 
-// The text of an entry: the help text, and the list if there is one.
+// The help text, and the list if there is one.
 fn with_list(alloc: Global, help: &str, words: Words<'_>) -> Result<String, AllocError>
     ensures { IfOk result (λ text.
         string_bytes text ≡ spec.with_list help.now (words_view words.entry)) }
@@ -260,6 +261,17 @@ fn with_list(alloc: Global, help: &str, words: Words<'_>) -> Result<String, Allo
         }
         Words::Listed(values) => format!(in alloc; "{help}: one of {}", Listed(values)),
     }
+}
+
+// The text of an entry: the help text, and the list unless the help leaves it out.
+fn told(alloc: Global, hides_list: bool, help: &str, words: Words<'_>) -> Result<String, AllocError>
+    ensures { IfOk result (λ text.
+        string_bytes text ≡ spec.told hides_list help.now (words_view words.entry)) }
+{
+    if hides_list {
+        return String::from_str(alloc, help);
+    }
+    with_list(alloc, help, words)
 }
 
 /// Adds an entry: a label, and this text beside it, wrapped to `width` columns.
@@ -281,36 +293,42 @@ pub fn push_described(
     push_labelled(out, label, words.as_slice(), width)
 }
 
-// Adds the entry of an option.
-fn push_entry<F, V, M, S>(
+// Adds a heading on a line of its own, after an empty line. Adds nothing if it is empty.
+fn push_heading(out: &mut String, heading: &str) -> Result<(), AllocError>
+    ensures { IfOk result (λ _.
+        string_bytes out.new ≡ string_bytes out.old ++ spec.heading_lines heading.now) }
+{
+    if heading.is_empty() {
+        return Ok(());
+    }
+    write!(out, "\n{heading}:\n")
+}
+
+// Adds the heading of an option, if it has one, and its entry.
+fn push_option<F, V, M, S>(
     out: &mut String,
     alloc: Global,
     option: &Declared<'_, F, V, M, S>,
     width: usize,
 ) -> Result<(), AllocError>
-    ensures { let o = option_view option.now in IfOk result (λ _. (text : List ℕ)
-        × IsEntry width (spec.label o) (spec.with_list o.help o.words) text
+    ensures { IfOk result (λ _. (text : List ℕ) × IsOption width (option_view option.now) text
         × (string_bytes out.new ≡ string_bytes out.old ++ text)) }
 {
+    push_heading(out, option.heading)?;
     let mut label = String::new(alloc);
     push_label(&mut label, option.names, option.kind.arity())?;
-    let told = with_list(alloc, option.help, option.words)?;
+    let told = told(alloc, option.hides_list, option.help, option.words)?;
     push_described(out, alloc, label.as_str(), told.as_str(), width)
 }
 
-/// Returns the entries of the options that are not hidden, wrapped to `width` columns.
-///
-/// # Errors
-///
-/// Returns `AllocError` if an allocation fails.
-pub fn option_entries<F, V, M, S>(
+// The entries of the options that are not hidden, each after its heading if it has one.
+fn option_entries<F, V, M, S>(
     alloc: Global,
     options: &[Declared<'_, F, V, M, S>],
     width: usize,
 ) -> Result<String, AllocError>
     ensures { IfOk result (λ text. (entries : List (List ℕ))
-        × AllZip (λ o. IsEntry width (spec.label o) (spec.with_list o.help o.words))
-        (spec.visible (map option_view options.now)) entries
+        × AllZip (IsOption width) (spec.visible (map option_view options.now)) entries
         × (string_bytes text ≡ concat entries)) }
 {
     let mut text = String::new(alloc);
@@ -318,13 +336,51 @@ pub fn option_entries<F, V, M, S>(
         if option.hidden {
             continue;
         }
-        push_entry(&mut text, alloc, option, width)?;
+        push_option(&mut text, alloc, option, width)?;
     }
     Ok(text)
 }
 
-/// Returns the entries of the positionals that have a list, or a help text with a word, wrapped to
-/// `width` columns.
+// Whether a text begins with an empty line.
+fn begins_apart(text: &str) -> bool
+    ensures { result ≡ starts_with (λ a b. a == b) text.now (spec.line_feed ∷ []) }
+{
+    text.as_bytes().starts_with(b"\n")
+}
+
+// Adds the entries of options after an empty line, with which a heading begins.
+fn push_options_part(out: &mut String, entries: &str) -> Result<(), AllocError>
+    ensures { IfOk result (λ _.
+        string_bytes out.new ≡ string_bytes out.old ++ spec.options_part entries.now) }
+{
+    if begins_apart(entries) {
+        return out.push_str(entries);
+    }
+    push_apart(out, entries)
+}
+
+/// Adds the entries of the options that are not hidden, wrapped to `width` columns, with their
+/// headings. An empty line comes before them.
+///
+/// # Errors
+///
+/// Returns `AllocError` if an allocation fails.
+pub fn push_options<F, V, M, S>(
+    out: &mut String,
+    alloc: Global,
+    options: &[Declared<'_, F, V, M, S>],
+    width: usize,
+) -> Result<(), AllocError>
+    ensures { IfOk result (λ _. (entries : List (List ℕ))
+        × AllZip (IsOption width) (spec.visible (map option_view options.now)) entries
+        × (string_bytes out.new ≡ string_bytes out.old ++ spec.options_part (concat entries))) }
+{
+    let entries = option_entries(alloc, options, width)?;
+    push_options_part(out, entries.as_str())
+}
+
+/// Returns the entries of the positionals that have a help text with a word, or a list that the
+/// help shows, wrapped to `width` columns.
 ///
 /// # Errors
 ///
@@ -335,13 +391,18 @@ pub fn positional_entries<P>(
     width: usize,
 ) -> Result<String, AllocError>
     ensures { IfOk result (λ text. (entries : List (List ℕ))
-        × AllZip (λ p. IsEntry width p.placeholder (spec.with_list p.help p.words))
+        × AllZip (λ p. IsEntry width p.placeholder (spec.positional_text p))
         (spec.described (map positional_view positionals.now)) entries
         × (string_bytes text ≡ concat entries)) }
 {
     let mut text = String::new(alloc);
     for positional in positionals {
-        let told = with_list(alloc, positional.help, positional.words)?;
+        let told = told(
+            alloc,
+            positional.hides_list,
+            positional.help,
+            positional.words,
+        )?;
         let words = words_of(alloc, told.as_str())?;
         let words = words.as_slice();
         if words.is_empty() {
@@ -536,7 +597,7 @@ fn add_positional_marks<P>(
     Ok(())
 }
 
-// The words of the usage line after the name of the program.
+// The words of the generated usage line after the name of the program.
 fn marks_of<F, V, P, M, S>(
     alloc: Global,
     declaration: &Declaration<'_, F, V, P, M, S>,
@@ -562,24 +623,75 @@ fn texts_of<'a>(alloc: Global, texts: &'a [String]) -> Result<Vec<&'a str>, Allo
     Ok(words)
 }
 
-// Adds the usage line, of the name of the program and these words.
-fn push_usage_lines(
+// Adds a usage line of the name of the program and these words, without how it begins.
+fn push_usage_line(
     out: &mut String,
     program: &str,
     words: &[&str],
     width: usize,
 ) -> Result<(), AllocError>
-    ensures { IfOk result (λ _. (lines : List spec.Line)
-        × Wraps (width - spec.usage_column) (program.now ∷ map (λ w. w.now) words.now) lines
-        × (string_bytes out.new ≡ string_bytes out.old
-        ++ (codes "Usage: " ++ spec.below spec.usage_column lines ++ spec.line_feed ∷ []))) }
+    ensures { IfOk result (λ _. (line : List ℕ)
+        × IsUsageLine width (program.now ∷ map (λ w. w.now) words.now) line
+        × (string_bytes out.new ≡ string_bytes out.old ++ line)) }
 {
-    out.push_str("Usage: ")?;
     let limit = width.saturating_sub(USAGE_COLUMN);
     push_whole_lines(out, program, words, limit, USAGE_COLUMN)
 }
 
-// Adds the usage line.
+// Adds a usage line of the program's own, without how it begins.
+fn push_own_usage(
+    out: &mut String,
+    alloc: Global,
+    program: &str,
+    own: &str,
+    width: usize,
+) -> Result<(), AllocError>
+    ensures { IfOk result (λ _. (line : List ℕ)
+        × IsUsageLine width (program.now ∷ spec.words_of own.now) line
+        × (string_bytes out.new ≡ string_bytes out.old ++ line)) }
+{
+    let words = words_of(alloc, own)?;
+    push_usage_line(out, program, words.as_slice(), width)
+}
+
+// Adds the usage lines of the program's own that come after the first.
+fn push_other_usages(
+    out: &mut String,
+    alloc: Global,
+    program: &str,
+    others: &[&str],
+    width: usize,
+) -> Result<(), AllocError>
+    ensures { IfOk result (λ _. (lines : List (List ℕ))
+        × AllZip (λ own. IsUsageLine width (program.now ∷ spec.words_of own))
+        (map (λ own. own.now) others.now) lines
+        × (string_bytes out.new ≡ string_bytes out.old
+        ++ flat_map (λ line. codes "  or:  " ++ line) lines)) }
+{
+    for own in others {
+        out.push_str("  or:  ")?;
+        push_own_usage(out, alloc, program, own, width)?;
+    }
+    Ok(())
+}
+
+// Adds the usage line that is generated, without how it begins.
+fn push_generated_usage<F, V, P, M, S>(
+    out: &mut String,
+    alloc: Global,
+    declaration: &Declaration<'_, F, V, P, M, S>,
+    width: usize,
+) -> Result<(), AllocError>
+    ensures { IfOk result (λ _. (line : List ℕ)
+        × IsUsageLine width (spec.usage_words (declaration_view declaration.now)) line
+        × (string_bytes out.new ≡ string_bytes out.old ++ line)) }
+{
+    let marks = marks_of(alloc, declaration)?;
+    let words = texts_of(alloc, marks.as_slice())?;
+    push_usage_line(out, declaration.program, words.as_slice(), width)
+}
+
+// Adds the usage.
 fn push_usage<F, V, P, M, S>(
     out: &mut String,
     alloc: Global,
@@ -590,12 +702,16 @@ fn push_usage<F, V, P, M, S>(
         × IsUsage width (declaration_view declaration.now) text
         × (string_bytes out.new ≡ string_bytes out.old ++ text)) }
 {
-    let marks = marks_of(alloc, declaration)?;
-    let words = texts_of(alloc, marks.as_slice())?;
-    push_usage_lines(out, declaration.program, words.as_slice(), width)
+    out.push_str("Usage: ")?;
+    let [first, others @ ..] = declaration.usage else {
+        return push_generated_usage(out, alloc, declaration, width);
+    };
+    push_own_usage(out, alloc, declaration.program, first, width)?;
+    push_other_usages(out, alloc, declaration.program, others, width)
 }
 
-/// Returns the usage line, wrapped to `width` columns, with a line feed at its end.
+/// Returns the usage, wrapped to `width` columns: one line or several, each with a line feed at its
+/// end.
 ///
 /// # Errors
 ///
@@ -628,8 +744,7 @@ fn push_help<F, V, P, M, S>(
     push_paragraph(out, alloc, declaration.about, width)?;
     let positionals = positional_entries(alloc, declaration.positionals, width)?;
     push_apart(out, positionals.as_str())?;
-    let options = option_entries(alloc, declaration.options, width)?;
-    push_apart(out, options.as_str())?;
+    push_options(out, alloc, declaration.options, width)?;
     push_epilogue(out, alloc, declaration.epilogue, width)
 }
 

@@ -1,52 +1,76 @@
 //! Finds an option by its name, and the names of the option at an index.
-ghost use Rattle.std.specs.Prelude.{◌≡◌, map, position};
+ghost use Rattle.std.specs.Prelude.{◌≡◌, map, position, true};
+ghost use Rattle.std.specs.List.{list_any};
 ghost use Rattle.lexopt_line_spec.specs.Table as table;
-ghost use Rattle.lexopt_options_spec.specs.Declaration.{index_of};
-ghost use Rattle.lexopt_options_spec.specs.Declaration as spec;
-ghost use Rattle.lexopt_declaration.specs.Models.{option_view};
-ghost use Rattle.lexopt_declaration.specs.Lookups.{help_names, is_help, names_at};
+ghost use Rattle.lexopt_options_spec.specs.Declaration.{index_of, is_one_of, is_sound, share};
+ghost use Rattle.lexopt_declaration.specs.Models.{names_list, option_view};
+ghost use Rattle.lexopt_declaration.specs.Lookups.{has_alias, help_names, is_help, names_at};
 
 use crate::declaration::{Declared, Kind, Names};
 
-// The index of the first option with this character. It is separate from `index_of_short` only for
-// the proof: its contract is by `position`.
+// The index of the first option whose own names have this character.
 fn place_of_short<F, V, M, S>(
     options: &[Declared<'_, F, V, M, S>],
     character: char,
 ) -> Option<usize>
     ensures { result
-        ≡ position (λ o. spec.has_name (table.short character) (option_view o)) options.now }
+        ≡ position (λ o. is_one_of (names_list o.names) (table.short character)) options.now }
 {
     options
         .iter()
         .position(|option| option.names.is_short(character))
 }
 
-// The index of the first option with this name. It is separate from `index_of_long` only for the
-// proof: its contract is by `position`.
+// The index of the first option whose own names have this name.
 fn place_of_long<F, V, M, S>(options: &[Declared<'_, F, V, M, S>], name: &str) -> Option<usize>
     ensures { result
-        ≡ position (λ o. spec.has_name (table.long name.now) (option_view o)) options.now }
+        ≡ position (λ o. is_one_of (names_list o.names) (table.long name.now)) options.now }
 {
     options.iter().position(|option| option.names.is_long(name))
 }
 
-/// Returns the index of the first option with this character, counted from 0; `None` if there is
-/// none.
+/// Returns whether a further name of this option is one of these.
+pub fn has_alias<F, V, M, S>(option: &Declared<'_, F, V, M, S>, names: Names<'_>) -> bool
+    ensures { result ≡ has_alias names.entry option.now }
+{
+    option.aliases.iter().any(|alias| names.shares(*alias))
+}
+
+// The index of the first option of which a further name is one of these. It is not inlined, so that
+// the search for an own name stays small.
+#[inline(never)]
+fn place_of_alias<F, V, M, S>(
+    options: &[Declared<'_, F, V, M, S>],
+    names: Names<'_>,
+) -> Option<usize>
+    ensures { result ≡ position (λ o. has_alias names.entry o) options.now }
+{
+    options.iter().position(|option| has_alias(option, names))
+}
+
+/// Returns the index of the option with this character, counted from 0; `None` if there is none.
 pub fn index_of_short<F, V, M, S>(
     options: &[Declared<'_, F, V, M, S>],
     character: char,
 ) -> Option<usize>
+    requires { is_sound (map option_view options.now) ≡ true }
     ensures { result ≡ index_of (map option_view options.now) (table.short character) }
 {
-    place_of_short(options, character)
+    match place_of_short(options, character) {
+        Some(index) => Some(index),
+        None => place_of_alias(options, Names::Short(character)),
+    }
 }
 
-/// Returns the index of the first option with this name, counted from 0; `None` if there is none.
+/// Returns the index of the option with this name, counted from 0; `None` if there is none.
 pub fn index_of_long<F, V, M, S>(options: &[Declared<'_, F, V, M, S>], name: &str) -> Option<usize>
+    requires { is_sound (map option_view options.now) ≡ true }
     ensures { result ≡ index_of (map option_view options.now) (table.long name.now) }
 {
-    place_of_long(options, name)
+    match place_of_long(options, name) {
+        Some(index) => Some(index),
+        None => place_of_alias(options, Names::Long(name)),
+    }
 }
 
 /// Returns the names of the option at this index.

@@ -107,6 +107,9 @@ pub fn variable(alloc: Global, program: &str) -> Result<String, AllocError>
 ///   and fish show what comes after the tab.
 /// - For the line `files` it offers the names of files, and for the line `directories` those of
 ///   directories. If a tab and a text come after that, the names come after this text in the word.
+/// - For the line `command`, a tab and a number, it completes the words after that many words of the
+///   line as a command line of their own. bash does so by the package bash-completion; without it,
+///   bash offers the names of files.
 ///
 /// If the program fails, the shell offers what it offers without the script, such as the names of
 /// files.
@@ -139,27 +142,30 @@ pub struct Script<'a> {
 const BASH: &str = r#"# Source this. It needs bash 4.4.
 
 # Splits a line into `words`, as the program would get them. The last word is in `word` instead, and
-# in `raw` as it was typed. `redirected` is set if it is the target of a redirection. `open` has the
-# end of each quote and substitution that is open, after a blank: the innermost is last.
+# in `raw` as it was typed. `starts` has where each begins in the line. `redirected` is set if the
+# last is the target of a redirection. `open` has the end of each quote and substitution that is
+# open, after a blank: the innermost is last.
 _split_§() {
-    local rest=$1 before piece value
+    local line=$1 rest=$1 before piece value
     local operator='^(&>>?|<<<|<<-?|<[>&]?|>[>&|]?)' number='^([0-9]+|\{[A-Za-z_0-9]+\})$'
     local escaped="^..(([^'\\]|\\\\.)*)('?)"
-    words=() word='' raw='' open=' ' redirected=''
+    words=() starts=() word='' raw='' open=' ' redirected=''
 
     while [[ $rest ]]; do
         # One character, or several plain ones at once.
         before=$open piece=${rest%%[![:alnum:]_./=-]*}
         piece=${piece:-${rest:0:1}}
         if [[ $open == ' ' && $piece == [$' \t\n'] ]]; then
-            [[ $raw && -z $redirected ]] && words+=("$word")
+            [[ $raw && -z $redirected ]] &&
+                words+=("$word") starts+=($((${#line} - ${#rest} - ${#raw})))
             [[ $raw ]] && redirected=''
             raw='' word=''
         elif [[ $open == ' ' && $rest != [\<\>]\(* && $rest =~ $operator ]]; then
             piece=${BASH_REMATCH[0]}
             # The number of a file just before it is not a word.
             [[ $piece != \&* && $raw =~ $number ]] && raw=''
-            [[ $raw && -z $redirected ]] && words+=("$word")
+            [[ $raw && -z $redirected ]] &&
+                words+=("$word") starts+=($((${#line} - ${#rest} - ${#raw})))
             raw='' word='' redirected=1
         else
             value=$piece
@@ -193,10 +199,12 @@ _split_§() {
         fi
         rest=${rest:${#piece}}
     done
+    starts+=($((${#line} - ${#raw})))
 }
 
 _complete_§() {
-    local words word raw open redirected program answers answer start kept typed name quoted
+    local words starts word raw open redirected program answers answer start kept typed name quoted
+    local begins index line
 
     COMPREPLY=()
     _split_§ "${COMP_LINE:0:COMP_POINT}"
@@ -214,7 +222,7 @@ _complete_§() {
 
     # Bash replaces only $2, which begins after the last `=`, `:`, `@` or open quote. What comes
     # before it in the word is kept.
-    typed=$word
+    typed=$word begins=("${starts[@]}")
     _split_§ "${raw%"$2"}"
     kept=$word
 
@@ -244,6 +252,22 @@ _complete_§() {
                     done
                 )
                 [[ ${#COMPREPLY[@]} == 1 && ${COMPREPLY[0]} == */ ]] && compopt -o nospace
+                ;;
+            command)
+                # The words after this many are a command line of their own. The package
+                # bash-completion completes it.
+                if ! declare -F _command_offset >/dev/null; then
+                    compopt -o bashdefault -o default
+                    return
+                fi
+                index=0 line=$COMP_LINE
+                while ((index < COMP_CWORD)); do
+                    line=${line#*"${COMP_WORDS[index]}"}
+                    ((${#COMP_LINE} - ${#line} > begins[start + 1])) && break
+                    ((index += 1))
+                done
+                _command_offset "$index"
+                return
                 ;;
             -* | +*)
                 answer=${answer#+}
@@ -281,6 +305,13 @@ _§() {
         case $word in
             files) names=(_files) start=$text ;;
             directories) names=(_path_files -/) start=$text ;;
+            command)
+                # The words after this many are a command line of their own.
+                shift $((text + 1)) words
+                ((CURRENT -= text + 1))
+                _normal
+                return
+                ;;
             -* | +*)
                 offered+=("${(q)word#+}")
                 # `_describe` takes what comes after a colon for the help.
@@ -353,6 +384,12 @@ function __complete_§
                 end
                 test $parts[1] = directories; and set names (string match '*/' -- $names)
                 string join \n -- $start$names
+            case command
+                # The words after this many are a command line of their own.
+                set -l first (math $parts[2] + 2)
+                set -l before
+                test $first -lt (count $words); and set before (string escape -- $words[$first..-2])
+                complete --do-complete "$before $token"
             case '-*' '+*'
                 string replace --regex '^[+]' '' -- $answer
         end

@@ -12,12 +12,10 @@ use Rattle.lexopt_line_spec.proofs.OneReading.{some_reading, no_other_reading}
 use Rattle.lexopt_line_spec.proofs.ReplyKinds.{IsNextReply, next_reply}
 use Rattle.lexopt_options_spec.specs.Asking.{AskFor, all_but_last, asked_by, first_asked, or_asked, parsed_before}
 use Rattle.lexopt_options_spec.specs.Declaration.{Asked, Declaration, Declared, table}
-use Rattle.lexopt_options_spec.specs.Leading.{AsksLeading, IsSplit}
 use Rattle.lexopt_options_spec.specs.Legal as legal
 use Rattle.lexopt_options_spec.specs.Legal.{Parsed, Means, parsed_item, positional_count, are_accepted}
 use Rattle.lexopt_options_spec.specs.Stops.{Mistake, StopsAt, unknown_option, unexpected_value, missing_value, invalid_value, unexpected_argument, invalid_argument, missing_argument, missing_option}
 use Rattle.lexopt_options_spec.proofs.Fronts.{front_later}
-use Rattle.lexopt_options_spec.proofs.LeadingStops.{leading_later}
 use Rattle.lexopt_options_spec.proofs.Lists.{count_append, same_somes, split}
 use Rattle.lexopt_laws.proofs.OneStop.{Compared, same, shorter, longer, compared, IsMissing, lacks_argument, refuses_word, lacks_option, Left, undeclared_first, flag_value, valueless, refused_first, no_room, at_end, left_of, not_shorter}
 
@@ -54,20 +52,6 @@ pub asked_of_list : (d : Declaration) (words : List (List ℕ)) (l : List Parsed
 asked_of_list d words l a means ask =
     let rest = front_later d words (asking ask) ask.there ask.read l means.front in
     ap (first_asked d.options) rest.1 ∙ asked_with d words a ask rest.0
-
--- ---- leading options
-
--- what asks is not a positional
-no_positional : (options : List Declared) (l : List Parsed) (s : Parsed) (a : Asked) → positional_count l ≡ 0 → asked_by options s ≡ Some a → positional_count (l ++ s ∷ []) ≡ 0
-no_positional options l (legal.option i value) a none asks = count_append l (legal.option i value ∷ []) ∙ omega (arith, none)
-no_positional options l (legal.several i values) a none asks = count_append l (legal.several i values ∷ []) ∙ omega (arith, none)
-no_positional options l (legal.positional word) a none asks = absurd (let e : None ≡ Some a = asks in cc)
-
-pub asked_of_split : (d : Declaration) (words : List (List ℕ)) (l : List Parsed) (rest : List (List ℕ)) (a : Asked) → IsSplit d words l rest → AsksLeading d words a → first_asked d.options l ≡ Some a
-asked_of_split d words l rest a split asks =
-    let ask = asks.asks in
-    let later = leading_later d words (asking ask) ask.there ask.read (no_positional d.options ask.before ask.parsed a asks.alone ask.asks) l rest split in
-    ap (first_asked d.options) later.1 ∙ asked_with d words a ask later.0
 
 -- ---- two options that ask
 

@@ -31,4 +31,4 @@ pub mod WorkedOpen
 pub mod WorkedRequired
 pub mod WorkedRoles
 pub mod WorkedLines
-pub mod WorkedLeading
+pub mod WorkedRest

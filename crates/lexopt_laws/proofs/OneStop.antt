@@ -24,7 +24,6 @@ use Rattle.lexopt_options_spec.specs.Stops.{Mistake, unknown_option, unexpected_
 use Rattle.lexopt_options_spec.proofs.Lists.{first_same, split, first_none, first_is, same_somes, count_append}
 use Rattle.lexopt_options_spec.proofs.Taken.{not_both, one_refused}
 use Rattle.lexopt_options_spec.proofs.Fronts.{above, item_of, not_refused, undeclared}
-use Rattle.lexopt_options_spec.proofs.LeadingStops.{no_items}
 use Rattle.lexopt_laws.proofs.Missing.{one_first_missing}
 
 -- ---- the unread line where a reading stops
@@ -153,6 +152,10 @@ no_missing d l m final items option is none (valueless name index o m_is final_i
 no_missing d l m final items option is none (refused_first item s index value rest m_is are parsed of refused) = let e : [] ≡ item ∷ rest = sym none ∙ are in cc
 no_missing d l m final items option is none (no_room word rest m_is are limit) = let e : [] ≡ spec.positional word ∷ rest = sym none ∙ are in cc
 no_missing d l m final items option is none (at_end lacks final_is are) = let e : steps.missing (Some option) ≡ steps.end = sym is ∙ final_is in cc
+
+no_items : (k a : List Item) → k ++ a ≡ [] → a ≡ []
+no_items [] a is = is
+no_items (x ∷ k) a is = absurd (let e : x ∷ (k ++ a) ≡ [] = is in cc)
 
 -- nothing is read after a mistake
 pub not_shorter : (d : Declaration) (l k : List Parsed) (m : Mistake) (final : Reply) (xs ms ns : List Item) (x : Item) (rest : List Item)

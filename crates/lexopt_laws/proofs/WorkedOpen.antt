@@ -1,11 +1,11 @@
 -- What can come after short lines.
-use Rattle.std.proofs.Common.{◌≡◌, ℕ, ◌==◌, true, false, List, [], ◌∷◌, ◌++◌, map, Option, Some, None, codes, refl, sym, ap, subst, ◌∙◌, true≢false, lit≤}
+use Rattle.std.proofs.Common.{◌≡◌, ℕ, ◌==◌, ◌||◌, true, false, List, [], ◌∷◌, ◌++◌, map, Option, Some, None, codes, refl, sym, ap, subst, ◌∙◌, true≢false, lit≤}
 use Rattle.std.specs.Prelude.{Contains}
 use Rattle.std.specs.Char.{IsScalar}
 use Rattle.std.specs.Str.{IsUtf8, is_utf8}
 use Rattle.std.specs.List.{list_any}
-use Rattle.std.specs.Cmp.Lexicographic.{pointwise, same_text}
-use Rattle.std.proofs.lemmas.Bool.{eqb-true}
+use Rattle.std.specs.Cmp.Lexicographic.{pointwise}
+use Rattle.std.proofs.Math.Bool.{or-false}
 use Rattle.std.proofs.lemmas.List.Folds.{list_any_at}
 use Rattle.std.proofs.lemmas.Str.{is_utf8-from_IsUtf8, IsUtf8-from_is_utf8}
 use Rattle.lexopt_spec.specs.UnreadLine.{dash}
@@ -14,35 +14,22 @@ use Rattle.lexopt_line_spec.specs.Table.{Item, Name, short, long, kind}
 use Rattle.lexopt_line_spec.specs.Spelling.{Spells, nothing, no_value, next_word, no_optional, several_words, nothing_more, no_words, separator}
 use Rattle.lexopt_line_spec.proofs.Computing.{computing}
 use Rattle.lexopt_line_spec.proofs.Worked.{last_of, cluster_line, plain_front_is, some}
-use Rattle.lexopt_options_spec.specs.Declaration.{Declaration, Declared, has_name, is_short, is_long, table}
+use Rattle.lexopt_options_spec.specs.Declaration.{Declaration, Declared, all_names, has_name, is_name, is_one_of, table}
 use Rattle.lexopt_options_spec.specs.Legal.{Parsed, option, several, parsed_item, positional_count, most, IsWithin}
 use Rattle.lexopt_options_spec.specs.Completion.{AreText, CanOccur, Completes, IsOpen, IsText, spellings}
 use Rattle.lexopt_options_spec.specs.Help.{visible}
-use Rattle.lexopt_options_spec.proofs.Offered.{completes_shown, occurs_offered}
+use Rattle.lexopt_options_spec.proofs.Offered.{completes_shown, occurs_offered, spellings_by}
 use Rattle.lexopt_options_spec.proofs.Sound.{either}
 use Rattle.lexopt_options_spec.proofs.Occurs.{AreNamed}
-use Rattle.lexopt_options_spec.proofs.Tables.{pointwise_refl}
+use Rattle.lexopt_options_spec.proofs.Tables.{name_is, pointwise_refl}
 use Rattle.lexopt_laws.specs.Sample.{hiding_options, hiding_sample, sample, sample_options, verbose, output, backup, exclude, mode}
 use Rattle.lexopt_laws.proofs.WorkedMeans.{front_of}
 
 -- ---- names that are text
 
 -- the names of this option are text
-pub record HasText (o : Declared) : Type 0 where
-  short_text : (c : ℕ) → o.short_name ≡ Some c → IsScalar c
-  long_text : (name : List ℕ) → o.long_name ≡ Some name → IsUtf8 name
-
-short_is : (c : ℕ) (n : Option ℕ) → is_short c n ≡ true → n ≡ Some c
-short_is c None is = absurd (true≢false (sym is))
-short_is c (Some d) is = ap (λ x. Some x) (eqb-true d c is)
-
-long_is : (name : List ℕ) (n : Option (List ℕ)) → is_long name n ≡ true → n ≡ Some name
-long_is name None is = absurd (true≢false (sym is))
-long_is name (Some m) is = ap (λ x. Some x) (same_text m name (sym is))
-
-one_text : (o : Declared) (name : Name) → HasText o → has_name name o ≡ true → IsText name
-one_text o (short c) text is = text.short_text c (short_is c o.short_name is)
-one_text o (long name) text is = text.long_text name (long_is name o.long_name is)
+abbrev pub HasText : Declared → Type 0
+HasText o = (name : Name) → has_name name o ≡ true → IsText name
 
 -- the names of all options are text
 abbrev pub AllText : List Declared → Type 0
@@ -52,21 +39,21 @@ AllText (o ∷ os) = HasText o × AllText os
 pub all_text : (os : List Declared) → AllText os → AreText os
 all_text [] text name is = absurd (true≢false (sym is))
 all_text (o ∷ os) text name is =
-    either (has_name name o) (list_any (has_name name) os) (IsText name) is (λ here. one_text o name text.0 here) (λ later. all_text os text.1 name later)
+    either (has_name name o) (list_any (has_name name) os) (IsText name) is (λ here. text.0 name here) (λ later. all_text os text.1 name later)
 
-pub text_of : (o : Declared) (c : ℕ) (name : List ℕ) → o.short_name ≡ Some c → o.long_name ≡ Some name → IsScalar c → is_utf8 name ≡ true → HasText o
-text_of o c name short_name long_name scalar text = record {
-  short_text = λ d is. let e : Some c ≡ Some d = sym short_name ∙ is in let same : c ≡ d = cc in subst IsScalar same scalar;
-  long_text = λ n is. let e : Some name ≡ Some n = sym long_name ∙ is in let same : name ≡ n = cc in subst IsUtf8 same (IsUtf8-from_is_utf8 name text);
-}
+pub text_of : (o : Declared) (c : ℕ) (name : List ℕ) → all_names o ≡ short c ∷ long name ∷ [] → IsScalar c → is_utf8 name ≡ true → HasText o
+text_of o c name are scalar text = λ n is.
+    either (is_name n (short c)) (is_name n (long name) || false) (IsText n) (sym (ap (λ l. is_one_of l n) are) ∙ is)
+    (λ here. subst IsText (name_is n (short c) here) scalar)
+    (λ later. subst IsText (name_is n (long name) (sym (or-false (is_name n (long name))) ∙ later)) (IsUtf8-from_is_utf8 name text))
 
 pub sample_text : AreText sample_options
 unfolding computing
 sample_text = all_text sample_options (
-  text_of verbose 0x76 (codes "verbose") refl refl refl refl,
+  text_of verbose 0x76 (codes "verbose") refl refl refl,
   (
-    text_of output 0x6F (codes "output") refl refl refl refl,
-    (text_of backup 0x62 (codes "backup") refl refl refl refl, (text_of exclude 0x78 (codes "exclude") refl refl refl refl, tt)),
+    text_of output 0x6F (codes "output") refl refl refl,
+    (text_of backup 0x62 (codes "backup") refl refl refl, (text_of exclude 0x78 (codes "exclude") refl refl refl, tt)),
   ),
 )
 
@@ -77,7 +64,7 @@ sample_named = ((short 0x76, refl), ((short 0x6F, refl), ((short 0x62, refl), ((
 
 pub hiding_text : AreText hiding_options
 unfolding computing
-hiding_text = all_text hiding_options (text_of (record output { hidden = true }) 0x6F (codes "output") refl refl refl refl, (text_of verbose 0x76 (codes "verbose") refl refl refl refl, tt))
+hiding_text = all_text hiding_options (text_of (record output { hidden = true }) 0x6F (codes "output") refl refl refl, (text_of verbose 0x76 (codes "verbose") refl refl refl, tt))
 
 pub hiding_named : AreNamed hiding_options
 unfolding computing
@@ -142,8 +129,8 @@ not_listed s xs is (i, within, same) =
     true≢false (sym (list_any_at (λ w. pointwise ◌==◌ w s) xs i s within (subst P (sym same) (pointwise_refl s))) ∙ is)
 
 -- no other spelling can come next
-pub not_offered : (d : Declaration) (words : List (List ℕ)) (s : List ℕ) → list_any (λ w. pointwise ◌==◌ w s) (spellings d.options) ≡ false → CanOccur d words s → ⊥
-not_offered d words s none possible = not_listed s (spellings d.options) none (occurs_offered d words s possible)
+pub not_offered : (d : Declaration) (words : List (List ℕ)) (s : List ℕ) → list_any (λ w. pointwise ◌==◌ w s) (spellings_by all_names d.options) ≡ false → CanOccur d words s → ⊥
+not_offered d words s none possible = not_listed s (spellings_by all_names d.options) none (occurs_offered d words s possible)
 
 -- nor does one complete that is not shown
 pub not_completed : (d : Declaration) (words : List (List ℕ)) (typed s : List ℕ) → list_any (λ w. pointwise ◌==◌ w s) (spellings (visible d.options)) ≡ false → Completes d words typed s → ⊥

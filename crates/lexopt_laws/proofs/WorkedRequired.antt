@@ -42,12 +42,12 @@ has_user = whole_of refl (spec.option (short 0x75) (Some (codes "me")) ∷ [])
 pub demanding_text : AreText (sample_options ++ user ∷ [])
 unfolding computing
 demanding_text = all_text (sample_options ++ user ∷ []) (
-  text_of verbose 0x76 (codes "verbose") refl refl refl refl,
+  text_of verbose 0x76 (codes "verbose") refl refl refl,
   (
-    text_of output 0x6F (codes "output") refl refl refl refl,
+    text_of output 0x6F (codes "output") refl refl refl,
     (
-      text_of backup 0x62 (codes "backup") refl refl refl refl,
-      (text_of exclude 0x78 (codes "exclude") refl refl refl refl, (text_of user 0x75 (codes "user") refl refl refl refl, tt)),
+      text_of backup 0x62 (codes "backup") refl refl refl,
+      (text_of exclude 0x78 (codes "exclude") refl refl refl, (text_of user 0x75 (codes "user") refl refl refl, tt)),
     ),
   ),
 )

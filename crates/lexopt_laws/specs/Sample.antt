@@ -14,9 +14,12 @@ verbose = record {
   placeholder = [];
   help = codes "tell more";
   asks = None;
+  heading = [];
   hidden = false;
   required = false;
   words = spec.files;
+  hides_list = false;
+  aliases = [];
 }
 
 abbrev pub output : Declared
@@ -27,9 +30,12 @@ output = record {
   placeholder = codes "FILE";
   help = codes "the archive";
   asks = None;
+  heading = [];
   hidden = false;
   required = false;
   words = spec.files;
+  hides_list = false;
+  aliases = [];
 }
 
 abbrev pub backup : Declared
@@ -40,9 +46,12 @@ backup = record {
   placeholder = codes "SUFFIX";
   help = codes "keep an archive that is there, with this suffix";
   asks = None;
+  heading = [];
   hidden = false;
   required = false;
   words = spec.files;
+  hides_list = false;
+  aliases = [];
 }
 
 abbrev pub exclude : Declared
@@ -53,9 +62,12 @@ exclude = record {
   placeholder = codes "PATTERN";
   help = codes "leave these out: all words up to the next option";
   asks = None;
+  heading = [];
   hidden = false;
   required = false;
   words = spec.files;
+  hides_list = false;
+  aliases = [];
 }
 
 abbrev pub sample_options : List Declared
@@ -63,37 +75,33 @@ sample_options = verbose ∷ output ∷ backup ∷ exclude ∷ []
 
 -- positionals: one that is required, one that may be left out, and any number
 abbrev pub mode : Positional
-mode = record { placeholder = codes "MODE"; count = once; help = []; words = spec.files }
-
-abbrev pub target : Positional
-target = record {
-  placeholder = codes "TARGET";
-  count = at_most_once;
+mode = record {
+  placeholder = codes "MODE";
+  count = once;
   help = [];
   words = spec.files;
+  hides_list = false;
 }
 
+abbrev pub target : Positional
+target = record mode { placeholder = codes "TARGET"; count = at_most_once }
+
 abbrev pub files : Positional
-files = record { placeholder = codes "FILE"; count = any_number; help = []; words = spec.files }
+files = record mode { placeholder = codes "FILE"; count = any_number }
 
 -- one that is required and may occur more than once, and one after it
 abbrev pub sources : Positional
-sources = record {
-  placeholder = codes "SOURCE";
-  count = at_least_once;
-  help = [];
-  words = spec.files;
-}
+sources = record mode { placeholder = codes "SOURCE"; count = at_least_once }
 
 abbrev pub dest : Positional
-dest = record { placeholder = codes "DEST"; count = once; help = []; words = spec.files }
+dest = record mode { placeholder = codes "DEST" }
 
 -- one that may be left out, and one after it
 abbrev pub old : Positional
-old = record { placeholder = codes "OLD"; count = at_most_once; help = []; words = spec.files }
+old = record mode { placeholder = codes "OLD"; count = at_most_once }
 
 abbrev pub new : Positional
-new = record { placeholder = codes "NEW"; count = once; help = []; words = spec.files }
+new = record mode { placeholder = codes "NEW" }
 
 -- the same as `files`, with a help text
 abbrev pub described_files : Positional
@@ -107,10 +115,8 @@ abbrev pub old_in_list : Positional
 old_in_list = record old { words = spec.listed (codes "a" ∷ []) }
 
 abbrev pub form_in_list : Positional
-form_in_list = record {
+form_in_list = record mode {
   placeholder = codes "FORM";
-  count = once;
-  help = [];
   words = spec.listed (codes "tar" ∷ []);
 }
 
@@ -119,6 +125,7 @@ abbrev pub sample : List Positional → Bool → Declaration
 sample positionals short_equals = record {
   program = codes "example_archive";
   about = codes "Prints what it has read.";
+  usage = [];
   options = sample_options;
   positionals = positionals;
   epilogue = [];
@@ -142,9 +149,12 @@ asks_for_help = record {
   placeholder = [];
   help = codes "print this help and exit";
   asks = Some for_help;
+  heading = [];
   hidden = false;
   required = false;
   words = spec.files;
+  hides_list = false;
+  aliases = [];
 }
 
 abbrev pub asks_for_version : Declared
@@ -170,9 +180,12 @@ user = record {
   placeholder = codes "NAME";
   help = codes "the owner of the archive";
   asks = None;
+  heading = [];
   hidden = false;
   required = true;
   words = spec.files;
+  hides_list = false;
+  aliases = [];
 }
 
 -- the sample with the required option at index 4
@@ -188,6 +201,12 @@ hiding_options = record output { hidden = true } ∷ verbose ∷ []
 abbrev pub hiding_sample : Declaration
 hiding_sample = record (sample [] true) { options = hiding_options }
 
+-- `-v` and `-o` have one heading, since that of a hidden option is left out; `-h` has another
+abbrev pub options_with_headings : List Declared
+options_with_headings = record verbose { heading = codes "Telling" }
+    ∷ record exclude { heading = codes "Leaving out"; hidden = true } ∷ output
+    ∷ record asks_for_help { heading = codes "Other" } ∷ []
+
 -- options that accept only the values in a list
 abbrev pub listed_mode : Declared
 listed_mode = record {
@@ -197,9 +216,12 @@ listed_mode = record {
   placeholder = codes "MODE";
   help = codes "how to pack";
   asks = None;
+  heading = [];
   hidden = false;
   required = false;
   words = spec.listed (codes "fast" ∷ codes "slow" ∷ []);
+  hides_list = false;
+  aliases = [];
 }
 
 abbrev pub listed_backup : Declared

@@ -8,10 +8,10 @@
 mod call_examples;
 mod examples;
 mod laws;
-mod leading_examples;
 mod line_examples;
 mod option_examples;
 mod option_laws;
+mod rest_examples;
 mod spell_examples;
 
 pub use laws::{

@@ -12,13 +12,13 @@ ghost use Rattle.lexopt_options_spec.specs.Asking.{AskFor, all_but_last, asked_a
 ghost use Rattle.lexopt_options_spec.specs.Asking.{first_asked, parsed_before};
 ghost use Rattle.lexopt_options_spec.specs.Completion.{AreOwners, AreOwnersIn, CanOwn};
 ghost use Rattle.lexopt_options_spec.specs.Completion.{AreText, CanOccur, Completes, IsOpen};
-ghost use Rattle.lexopt_options_spec.specs.Completion.{IsOption, IsText, names_of, spelling};
+ghost use Rattle.lexopt_options_spec.specs.Completion.{IsOption, IsText, spelling};
 ghost use Rattle.lexopt_options_spec.specs.Completion.{EndsWith, Extends, HasRole, IsJoined};
 ghost use Rattle.lexopt_options_spec.specs.Completion.{argument};
 ghost use Rattle.lexopt_options_spec.specs.Completion.{role_of, spellings, value_of};
 ghost use Rattle.lexopt_options_spec.specs.Examples.{joined_after};
 ghost use Rattle.lexopt_options_spec.specs.Completion.{value};
-ghost use Rattle.lexopt_options_spec.specs.Declaration.{Asked, Declaration};
+ghost use Rattle.lexopt_options_spec.specs.Declaration.{Asked, Declaration, names_of};
 ghost use Rattle.lexopt_options_spec.specs.Declaration.{IsFirstFault, IsSecondRepeated, are_clear};
 ghost use Rattle.lexopt_options_spec.specs.Declaration as declared;
 ghost use Rattle.lexopt_options_spec.specs.Declaration.{accepts, bad_list, bad_placeholder};
@@ -57,7 +57,8 @@ ghost use Rattle.lexopt_options_spec.specs.Nearest.{ending, hinted_names, if_one
 ghost use Rattle.lexopt_laws.specs.Sample.{demanding_sample, dest, new, old, old_in_list, sources};
 ghost use Rattle.lexopt_laws.specs.Sample.{demanding_listed, listed_mode, listed_options, user};
 ghost use Rattle.lexopt_laws.specs.Sample.{hiding_options, hiding_sample, listed_sample};
-ghost use Rattle.lexopt_laws.specs.Sample.{named, names_in_re, sample_options, target, verbose};
+ghost use Rattle.lexopt_laws.specs.Sample.{named, names_in_re, options_with_headings, sample_options};
+ghost use Rattle.lexopt_laws.specs.Sample.{target, verbose};
 
 // The index of the option with a name: the first, if two have the name. A name is typed whole.
 fn options_have_names()
@@ -1220,7 +1221,8 @@ fn entries_are_written()
     ensures nothing_to_say { IsEntry 80 (label verbose) (codes "  ") (codes "  -v, --verbose\n") }
 {}
 
-// Usage lines: on one line, and on as many lines as a narrow width needs.
+// Usages: a generated line, on one line and on as many as a narrow width needs, and two lines of
+// the program's own.
 fn usage_lines_are_written()
     ensures one_line { IsUsage 80 (sample (mode ∷ target ∷ files ∷ []) true)
         (codes "Usage: example_archive [OPTION]... MODE [TARGET] [FILE]...\n") }
@@ -1228,6 +1230,10 @@ fn usage_lines_are_written()
         (codes "Usage: example_archive\n       [OPTION]... MODE\n       [TARGET] [FILE]...\n") }
     ensures no_room { IsUsage 0 (sample [] true)
         (codes "Usage: example_archive\n       [OPTION]...\n") }
+    ensures own { IsUsage 30 (record (sample (mode ∷ []) true) {
+      usage = codes "SOURCE DEST" ∷ codes "SOURCE... DIRECTORY" ∷ [];
+    })
+        (codes "Usage: example_archive SOURCE\n       DEST\n  or:  example_archive\n       SOURCE... DIRECTORY\n") }
 {}
 
 // Paragraphs: on one line, on two, and without words.
@@ -1265,4 +1271,12 @@ fn helps_are_written()
     ensures list_of_a_positional { IsHelp
         (record (sample (mode_in_list ∷ []) true) { options = []; about = [] }) 80
         (codes "Usage: example_archive MODE\n\n  MODE                  one of fast, slow\n") }
+    ensures headings { IsHelp
+        (record (sample [] true) { options = options_with_headings; about = [] }) 80
+        (codes "Usage: example_archive [OPTION]...\n\nTelling:\n  -v, --verbose         tell more\n  -o, --output=FILE     the archive\n\nOther:\n  -h, --help            print this help and exit\n") }
+    ensures hidden_list { IsHelp (record (sample [] true) {
+      options = record listed_mode { hides_list = true } ∷ [];
+      about = [];
+    }) 80
+        (codes "Usage: example_archive [OPTION]...\n\n  -m, --mode=MODE       how to pack\n") }
 {}

@@ -1,5 +1,5 @@
 //! Laws of declared options. `laws.rt` has those that all of lexopt shares.
-ghost use Rattle.std.specs.Prelude.{◌≡◌, ◌≢◌, ◌≤◌, ◌⊎◌, ℕ, List, Contains, slice_get};
+ghost use Rattle.std.specs.Prelude.{◌≡◌, ◌≢◌, ◌≤◌, ◌⊎◌, ◌∷◌, ℕ, List, Contains, slice_get};
 ghost use Rattle.std.specs.Prelude.{Option, None, Some, true};
 ghost use Rattle.std.specs.List.{All};
 ghost use Rattle.lexopt_line_spec.specs.Table.{Name};
@@ -9,7 +9,7 @@ ghost use Rattle.lexopt_options_spec.specs.Completion.{HasRole, Role};
 ghost use Rattle.lexopt_options_spec.specs.Declaration.{Asked, Declaration, Declared, Positional};
 ghost use Rattle.lexopt_options_spec.specs.Declaration.{accepts, has_name, index_of, is_sound};
 ghost use Rattle.lexopt_options_spec.specs.Declaration.{are_listable, listed};
-ghost use Rattle.lexopt_options_spec.specs.Leading.{IsSplit, LeadingStopsAt, MeansLeading};
+ghost use Rattle.lexopt_options_spec.specs.Rest.{HaveNoRest, IsSplit};
 ghost use Rattle.lexopt_options_spec.specs.Legal.{IsWithin, Parsed, Means, MeansFront};
 ghost use Rattle.lexopt_options_spec.specs.Legal.{are_accepted, is_option, most, occurs};
 ghost use Rattle.lexopt_options_spec.specs.Legal.{positional_count, positional_words};
@@ -17,7 +17,8 @@ ghost use Rattle.lexopt_options_spec.specs.Legal.{refused_value};
 ghost use Rattle.lexopt_options_spec.specs.Places.{ArePlaces, AreShares, IsNotTaken, least};
 ghost use Rattle.lexopt_options_spec.specs.Places.{refused_word, takes_at};
 ghost use Rattle.lexopt_options_spec.specs.States.{LeadsNowhere, Leaves, State};
-ghost use Rattle.lexopt_options_spec.specs.Stops.{Mistake, StopsAt, invalid_argument};
+ghost use Rattle.lexopt_options_spec.specs.Stops.{IsOfOption, Mistake, StopsAt};
+ghost use Rattle.lexopt_options_spec.specs.Stops.{invalid_argument};
 ghost use Rattle.lexopt_laws.specs.ListedValues.{IsFirstOutside, IsFirstRefused, values_of};
 
 /// By a declaration, words mean at most one list. There is at most one mistake at which the reading
@@ -177,14 +178,17 @@ pub fn words_can_belong_to_one_list_of_positionals()
         → AreOwnersIn ps role owners → AreOwnersIn ps role others → owners ≡ others }
 {}
 
-/// There is at most one way to split words into leading options and a rest. If the options can be
-/// declared together, and the reading of the leading options stops at a mistake, then the words do
-/// not mean any leading options and rest.
-pub fn words_have_one_list_of_leading_options()
-    ensures one { (d : Declaration) (words : List (List ℕ)) (l m : List Parsed)
-        (rest others : List (List ℕ)) → IsSplit d words l rest → IsSplit d words m others
-        → (l ≡ m) × (rest ≡ others) }
-    ensures none { (d : Declaration) (words : List (List ℕ)) (before l : List Parsed)
-        (rest : List (List ℕ)) (mistake : Mistake) → is_sound d.options ≡ true
-        → LeadingStopsAt d words before mistake → MeansLeading d words l rest → ⊥ }
+/// There is at most one way to split words into a front and a rest, and none if they are a front
+/// themselves. If an option of the words has a mistake, they have no rest after a front that is a
+/// legal line.
+pub fn words_have_one_rest()
+    ensures one { (d : Declaration) (words front other : List (List ℕ)) (word first : List ℕ)
+        (more left : List (List ℕ)) → IsSplit d words front word more
+        → IsSplit d words other first left → (front ≡ other) × (word ∷ more ≡ first ∷ left) }
+    ensures alone { (d : Declaration) (words : List (List ℕ)) (l : List Parsed)
+        → MeansFront d words l → HaveNoRest d words }
+    ensures none { (d : Declaration) (words front : List (List ℕ)) (word : List ℕ)
+        (more : List (List ℕ)) (l m : List Parsed) (mistake : Mistake)
+        → StopsAt d words m mistake → IsOfOption mistake → IsSplit d words front word more
+        → Means d front l → ⊥ }
 {}

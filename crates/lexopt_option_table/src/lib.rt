@@ -8,29 +8,48 @@
 ghost use Rattle.std.specs.Prelude.{◌≡◌, IfOk, OnOk};
 ghost use Rattle.lexopt_options_spec.specs.Declaration as spec;
 ghost use Rattle.lexopt_items.specs.Items.{table_view};
-ghost use Rattle.lexopt_declaration.specs.Models.{option_view};
+ghost use Rattle.lexopt_declaration.specs.Models.{names_list, option_view};
 ghost use Rattle.lexopt_option_table.specs.Tables.{AddsNames, AddsOption};
 ghost use Rattle.lexopt_options.specs.Declarations.{declaration_of};
 
 use lexopt_items::items::Table;
-use lexopt_options::{Declared, Kind, Options};
+use lexopt_options::{Declared, Kind, Names, Options};
 use std::alloc::{AllocError, Global};
 
-// Adds the names of an option to these lists.
-fn add_names<F, V, M, S>(
+// Adds a character, a long name, or both to these lists.
+fn add_names(
+    alloc: Global,
+    names: Names<'_>,
+    shorts: &mut Vec<char>,
+    longs: &mut Vec<String>,
+) -> Result<(), AllocError>
+    ensures { OnOk result (AddsNames (names_list names.entry) shorts.old.items longs.old.items
+        shorts.new.items longs.new.items) }
+{
+    match names {
+        Names::Short(character) => shorts.push(character)?,
+        Names::Long(name) => longs.push(String::from_str(alloc, name)?)?,
+        Names::Both(character, name) => {
+            shorts.push(character)?;
+            longs.push(String::from_str(alloc, name)?)?;
+        }
+    }
+    Ok(())
+}
+
+// Adds all names of an option to these lists.
+fn add_all_names<F, V, M, S>(
     alloc: Global,
     option: &Declared<'_, F, V, M, S>,
     shorts: &mut Vec<char>,
     longs: &mut Vec<String>,
 ) -> Result<(), AllocError>
-    ensures { OnOk result (AddsNames (option_view option.now) shorts.old.items longs.old.items
-        shorts.new.items longs.new.items) }
+    ensures { OnOk result (AddsNames (spec.all_names (option_view option.now)) shorts.old.items
+        longs.old.items shorts.new.items longs.new.items) }
 {
-    if let Some(character) = option.names.short() {
-        shorts.push(character)?;
-    }
-    if let Some(name) = option.names.long() {
-        longs.push(String::from_str(alloc, name)?)?;
+    add_names(alloc, option.names, shorts, longs)?;
+    for names in option.aliases {
+        add_names(alloc, *names, shorts, longs)?;
     }
     Ok(())
 }
@@ -46,14 +65,14 @@ fn add_option<F, V, M, S>(
 {
     match option.kind {
         Kind::Flag(_) | Kind::Help | Kind::Version(_) => Ok(()),
-        Kind::Value(_, _) => add_names(alloc, option, &mut table.shorts, &mut table.longs),
-        Kind::Maybe(_, _) => add_names(
+        Kind::Value(_, _) => add_all_names(alloc, option, &mut table.shorts, &mut table.longs),
+        Kind::Maybe(_, _) => add_all_names(
             alloc,
             option,
             &mut table.optional_shorts,
             &mut table.optional_longs,
         ),
-        Kind::Values(_, _) => add_names(
+        Kind::Values(_, _) => add_all_names(
             alloc,
             option,
             &mut table.several_shorts,

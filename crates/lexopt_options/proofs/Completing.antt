@@ -5,12 +5,12 @@ use Rattle.std.specs.Global.{Global}
 use Rattle.std.specs.List.{Contains, flat_map, starts_with}
 use Rattle.std.specs.Str.{IsUtf8}
 use Rattle.std.proofs.Common.{◌<◌, ◌==◌, ◌≢◌, encode_utf8, position}
-use Rattle.std.proofs.lemmas.Bool.{and_parts, eq-eqb, eqb-true, false≢true}
+use Rattle.std.proofs.lemmas.Bool.{and_parts, eqb-true, false≢true}
 use Rattle.std.proofs.lemmas.List.Quantifiers.{position-Some}
 use Rattle.std.proofs.lemmas.List.{map-append}
 use Rattle.std.specs.declared.alloc.AllocError.{AllocError}
 use Rattle.lexopt_spec.specs.UnreadLine.{BeginsWith, dash}
-use Rattle.lexopt_options_spec.specs.Declaration.{Declaration, Declared, has_name, index_of, is_long, is_short, is_sound}
+use Rattle.lexopt_options_spec.specs.Declaration.{Declaration, Declared, has_name, index_of, is_sound, names_of}
 use Rattle.lexopt_options_spec.specs.Legal as legal
 use Rattle.lexopt_options_spec.specs.Legal.{MeansFront, parsed_item}
 use Rattle.lexopt_options_spec.proofs.Lists.{first_same, same_last}
@@ -20,7 +20,7 @@ use Rattle.lexopt_line_spec.specs.Spelling.{no_words, plain_word}
 use Rattle.lexopt_line_spec.specs.Table as table
 use Rattle.lexopt_line_spec.specs.Table.{Item, Name}
 use Rattle.lexopt_options_spec.specs.Completion as spec
-use Rattle.lexopt_options_spec.specs.Completion.{AreText, HasRole, IsJoined, IsOption, JoinsValue, explained, explained_by, joined_at, list_of, listed_by, names_of, offered_values, spelling, spellings, values_at}
+use Rattle.lexopt_options_spec.specs.Completion.{AreText, HasRole, IsJoined, IsOption, JoinsValue, explained, explained_by, joined_at, list_of, listed_by, offered_values, spelling, spellings, values_at}
 use Rattle.lexopt_options_spec.specs.Help.{visible}
 use Rattle.lexopt_options_spec.proofs.Roles.{extends}
 use Rattle.lexopt_options_spec.proofs.Occurs.{AreNamed, occurs_accepted, occurs_open, occurs_taken}
@@ -30,7 +30,7 @@ use Rattle.lexopt_options_spec.specs.Legal.{positional_words}
 use Rattle.lexopt_options_spec.specs.Completion.{words_at}
 use Rattle.lexopt_options.specs.declared.options.Options.{Options}
 use Rattle.lexopt_options.specs.Declarations.{declaration_of, options_of}
-use Rattle.lexopt_options_spec.proofs.Tables.{pointwise_refl}
+use Rattle.lexopt_options_spec.proofs.Tables.{long_named, short_named}
 use Rattle.lexopt_declaration.specs.Models.{long_name, option_view, positional_view, short_name, spelling_view, words_view}
 use Rattle.lexopt_declaration.specs.declared.spellings.Spelling.{Spelling}
 use Rattle.lexopt_declaration.specs.declared.declaration.Positional as rust_positional
@@ -71,9 +71,9 @@ all_named [] = tt
 all_named {F} {V} {M} {S} (o ∷ os) = (one o.names refl, all_named os)
   where
     one : (n : Names) → o.names ≡ n → (name : Name) × (has_name name (option_view o) ≡ true)
-    one (names.Short c) is = (table.short c, ap (is_short c) (ap short_name is) ∙ eq-eqb c c refl)
-    one (names.Long name) is = (table.long name.now, ap (is_long name.now) (ap long_name is) ∙ pointwise_refl name.now)
-    one (names.Both c name) is = (table.short c, ap (is_short c) (ap short_name is) ∙ eq-eqb c c refl)
+    one (names.Short c) is = (table.short c, short_named (option_view o) c (ap short_name is))
+    one (names.Long name) is = (table.long name.now, long_named (option_view o) name.now (ap long_name is))
+    one (names.Both c name) is = (table.short c, short_named (option_view o) c (ap short_name is))
 
 -- the spellings without their help texts
 firsts_kept : (q : List ℕ → Bool) (l : List (List ℕ × List ℕ)) → map (λ p. p.0) (filter (λ p. q p.0) l) ≡ filter q (map (λ p. p.0) l)

@@ -2,7 +2,6 @@
 use Rattle.std.proofs.Common.{◌≡◌, ◌≢◌, ◌↔◌, ◌<◌, ◌+◌, ◌&&◌, ◌⊎◌, ℕ, Bool, IsTrue, true, false, not, is_none, position, get_or, slice_get, string_bytes, unwrap_or, List, [], ◌∷◌, ◌++◌, map, length, Option, Some, None, option_map, refl, sym, ap, subst, ◌∙◌, inl, inr, arith}
 use Rattle.std.proofs.Common.{Result, Ok, Err, IfOk}
 use Rattle.std.specs.Borrow.{Bor}
-use Rattle.std.specs.Prelude.{option_and_then}
 use Rattle.std.specs.Str.{IsUtf8}
 use Rattle.std.proofs.lemmas.Bool.{false≢true}
 use Rattle.std.proofs.Math.Bool.{and-true}
@@ -27,12 +26,11 @@ use Rattle.lexopt_declaration.specs.Models.{kind_of, option_view, words_view}
 use Rattle.lexopt_declaration.specs.declared.declaration.Declared as rust
 use Rattle.lexopt_declaration.specs.declared.declaration.Kind as rust_kind
 use Rattle.lexopt_declaration.specs.declared.declaration.Kind.TheVariants as rust_kinds
-use Rattle.lexopt_options_spec.specs.Asking.{asked_by, first_asked, or_asked}
 use Rattle.lexopt_options_spec.specs.Completion.{CanBeTaken, HasRole, IsJoined, IsOpen, IsOption, JoinsValue, value_of}
 use Rattle.lexopt_options_spec.specs.Declaration as declared
 use Rattle.lexopt_options_spec.specs.Declaration.{Declaration, index_of, is_sound}
 use Rattle.lexopt_options_spec.specs.Legal as legal
-use Rattle.lexopt_options_spec.specs.Legal.{IsWithin, MeansFront, Parsed, accepts_at, are_accepted, counts, is_required, most, positional_count, positional_words, refused_value}
+use Rattle.lexopt_options_spec.specs.Legal.{IsWithin, MeansFront, Parsed, accepts_at, are_accepted, counts, most, positional_count, positional_words, refused_value}
 use Rattle.lexopt_options_spec.specs.States as spec
 use Rattle.lexopt_options_spec.specs.States.{LeadsNowhere, Leaves, Says, leaves_anything, leaves_due, leaves_first, leaves_further, leaves_ended, role_in, state_at_end}
 use Rattle.lexopt_options_spec.proofs.Fronts.{one_front}
@@ -45,7 +43,7 @@ use Rattle.lexopt_options_spec.proofs.States.{front_says, says_front, never_open
 use Rattle.lexopt_options_spec.proofs.Taken.{words_append, words_count}
 use Rattle.lexopt_options.specs.Completions.{CanCome, Opens}
 use Rattle.lexopt_options.specs.Kinds.{kind_at}
-use Rattle.lexopt_options.specs.Reading.{AreSeen, ReadsParsed, noted, parsed_with}
+use Rattle.lexopt_options.specs.Reading.{ReadsParsed, parsed_with}
 use Rattle.lexopt_options.specs.States.{IsFront, IsAfterName, IsLast, can_go_on, first_of, index_if, state_view, with_index}
 use Rattle.lexopt_options.specs.declared.front.Front.{Front}
 use Rattle.lexopt_options.specs.declared.front.AfterName.{AfterName}
@@ -55,7 +53,7 @@ use Rattle.lexopt_options.specs.declared.front.State.TheVariants as state
 use Rattle.lexopt_options.proofs.Accepted.{at_place, first_refused, first_there, none_cond, view_there}
 use Rattle.lexopt_options.proofs.Keys.{found_within}
 use Rattle.lexopt_options.proofs.NoValue.{unexpected_never}
-use Rattle.lexopt_options.proofs.ReadKeys.{option_with, seen_more, seen_same}
+use Rattle.lexopt_options.proofs.ReadKeys.{option_with}
 use Rattle.lexopt_options.proofs.ReadNext.{kind_of_index, more_within, no_count, option_item, option_parsed}
 
 -- ---- what was read last
@@ -71,54 +69,33 @@ read_last l index s (Some v) is has = (l, s, refl, is, has)
 
 -- ---- the loop
 
--- The line s is read up to the line u: these positionals, and options, of which these required ones
--- were seen, and which all accept their values if `accepted` is true, and ask for nothing if `unasked`
--- is true; what was read last; and the option of several values that goes on.
-pub record HasReached (d : Declaration) (s u : UnreadLine) (words : List (List ℕ)) (seen : List ℕ) (accepted unasked : Bool) (last : Option (ℕ × List ℕ)) (going : Option ℕ) : Type 0 where
+-- The line s is read up to the line u: these positionals, and options, which all accept their values
+-- if `accepted` is true; what was read last; and the option of several values that goes on.
+pub record HasReached (d : Declaration) (s u : UnreadLine) (words : List (List ℕ)) (accepted : Bool) (last : Option (ℕ × List ℕ)) (going : Option ℕ) : Type 0 where
   pub l : List Parsed
   pub at : Reached d s l going u
   pub words_are : positional_words l ≡ words
-  pub are_seen : AreSeen d.options l seen
   pub accepted_is : are_accepted d.options l ≡ accepted
-  pub asked_is : is_none (first_asked d.options l) ≡ unasked
   pub last_is : IsReadLast l last
 
-pub counted : {d : Declaration} {s u : UnreadLine} {words : List (List ℕ)} {seen : List ℕ} {accepted unasked : Bool} {last : Option (ℕ × List ℕ)} {going : Option ℕ} (has : HasReached d s u words seen accepted unasked last going) → positional_count has.l ≡ length words
+pub counted : {d : Declaration} {s u : UnreadLine} {words : List (List ℕ)} {accepted : Bool} {last : Option (ℕ × List ℕ)} {going : Option ℕ} (has : HasReached d s u words accepted last going) → positional_count has.l ≡ length words
 counted has = sym (words_count has.l) ∙ ap length has.words_are
 
-pub has_nothing : (d : Declaration) (s : UnreadLine) (words : List (List ℕ)) (seen : List ℕ) → IsLine s → words ≡ [] → seen ≡ [] → HasReached d s s words seen true true None None
-has_nothing d s words seen line none none_seen = record {
+pub has_nothing : (d : Declaration) (s : UnreadLine) (words : List (List ℕ)) → IsLine s → words ≡ [] → HasReached d s s words true None None
+has_nothing d s words line none = record {
   l = [];
   at = nothing_reached d s line;
   words_are = sym none;
-  are_seen = subst (AreSeen d.options []) (sym none_seen) (λ i needed. refl);
   accepted_is = refl;
-  asked_is = refl;
   last_is = λ others last are. absurd (no_last others last are);
 }
 
 accepted_more : (options : List _) (l : List Parsed) (s : Parsed) → are_accepted options (l ++ s ∷ []) ≡ (are_accepted options l && is_none (refused_value options s))
 accepted_more options l s = list_all-append (λ x. is_none (refused_value options x)) l (s ∷ []) ∙ ap (λ b. are_accepted options l && b) (and-true (is_none (refused_value options s)))
 
-neither_asked : (a b : Option declared.Asked) → is_none (or_asked a b) ≡ (is_none a && is_none b)
-neither_asked None b = refl
-neither_asked (Some a) b = refl
-
-both_of : (a b c : Bool) → (a && (b && c)) ≡ ((a && b) && c)
-both_of true b c = refl
-both_of false b c = refl
-
-unasked_more : (options : List declared.Declared) (l : List Parsed) (s : Parsed) → is_none (first_asked options (l ++ s ∷ [])) ≡ (is_none (first_asked options l) && is_none (asked_by options s))
-unasked_more options [] s = neither_asked (asked_by options s) None ∙ and-true (is_none (asked_by options s))
-unasked_more options (x ∷ l) s =
-    neither_asked (asked_by options x) (first_asked options (l ++ s ∷ []))
-    ∙ ap (λ b. is_none (asked_by options x) && b) (unasked_more options l s)
-    ∙ both_of (is_none (asked_by options x)) (is_none (first_asked options l)) (is_none (asked_by options s))
-    ∙ ap (λ b. b && is_none (asked_by options s)) (sym (neither_asked (asked_by options x) (first_asked options l)))
-
-pub has_positional : (d : Declaration) (s u v : UnreadLine) (words more : List (List ℕ)) (word : List ℕ) (seen : List ℕ) (accepted unasked : Bool) (last : Option (ℕ × List ℕ)) (going limit : Option ℕ) → HasReached d s u words seen accepted unasked last going
-    → Next u (steps.positional word) v → limit ≡ most d.positionals → limit ≢ Some (length words) → more ≡ words ++ word ∷ [] → HasReached d s v more seen accepted unasked None None
-has_positional d s u v words more word seen accepted unasked last going limit has next limit_is room more_is =
+pub has_positional : (d : Declaration) (s u v : UnreadLine) (words more : List (List ℕ)) (word : List ℕ) (accepted : Bool) (last : Option (ℕ × List ℕ)) (going limit : Option ℕ) → HasReached d s u words accepted last going
+    → Next u (steps.positional word) v → limit ≡ most d.positionals → limit ≢ Some (length words) → more ≡ words ++ word ∷ [] → HasReached d s v more accepted None None
+has_positional d s u v words more word accepted last going limit has next limit_is room more_is =
     let own = legal.positional word in
     let count : positional_count (has.l ++ own ∷ []) ≡ positional_count has.l + 1 = count_append has.l (own ∷ []) in
     record {
@@ -127,9 +104,7 @@ has_positional d s u v words more word seen accepted unasked last going limit ha
           (subst (λ n. IsWithin n (most d.positionals)) (sym count)
           (more_within (positional_count has.l) (most d.positionals) (λ full. room (limit_is ∙ full ∙ ap (λ n. Some n) (counted has))) has.at.upto.within));
       words_are = words_append has.l (own ∷ []) ∙ ap (λ ws. ws ++ word ∷ []) has.words_are ∙ sym more_is;
-      are_seen = seen_same d.options has.l seen word has.are_seen;
       accepted_is = accepted_more d.options has.l own ∙ and-true (are_accepted d.options has.l) ∙ has.accepted_is;
-      asked_is = unasked_more d.options has.l own ∙ and-true (is_none (first_asked d.options has.l)) ∙ has.asked_is;
       last_is = λ others other are. ap value_of (sym (same_last has.l others own other are).1);
     }
 
@@ -238,23 +213,16 @@ fits table.flag v w values reads = tt
 fits table.one v w values reads = tt
 fits table.optional v w values reads = tt
 
-asked_here : (options : List declared.Declared) (index : ℕ) (values : Values) (o : declared.Declared) → slice_get options index ≡ Some o → asked_by options (parsed_with index values) ≡ o.asks
-asked_here options index (at_most_one value) o at = ap (option_and_then (λ p. p.asks)) at
-asked_here options index (all values) o at = ap (option_and_then (λ p. p.asks)) at
-
 -- one more option
-pub has_option : (d : Declaration) (s u v w : UnreadLine) (words : List (List ℕ)) (seen seen_now : List ℕ) (accepted own unasked nothing : Bool) (last : Option (ℕ × List ℕ)) (going : Option ℕ) (value : Option (List ℕ)) (goes_on : Bool) (name : Name) (index : ℕ) (o : declared.Declared)
-    → is_sound d.options ≡ true → HasReached d s u words seen accepted unasked last going → Next u (option_reply name) v → index_of d.options name ≡ Some index → slice_get d.options index ≡ Some o → nothing ≡ is_none o.asks
-    → IsAfterName d index v (after.Values own value goes_on) w → seen_now ≡ noted (is_required d.options index) index seen
-    → HasReached d s w words seen_now (accepted && own) (unasked && nothing) (with_index index value) (index_if goes_on index) × (bound w < bound u)
-has_option d s u v w words seen seen_now accepted own unasked nothing last going value goes_on name index o sound has next found there nothing_is (k, values, k_is, reads, own_is, value_is, goes_is) seen_is = (
+pub has_option : (d : Declaration) (s u v w : UnreadLine) (words : List (List ℕ)) (accepted own : Bool) (last : Option (ℕ × List ℕ)) (going : Option ℕ) (value : Option (List ℕ)) (goes_on : Bool) (name : Name) (index : ℕ)
+    → is_sound d.options ≡ true → HasReached d s u words accepted last going → Next u (option_reply name) v → index_of d.options name ≡ Some index → IsAfterName d index v (after.Values own value goes_on) w
+    → HasReached d s w words (accepted && own) (with_index index value) (index_if goes_on index) × (bound w < bound u)
+has_option d s u v w words accepted own last going value goes_on name index sound has next found (k, values, k_is, reads, own_is, value_is, goes_is) = (
   record {
     l = has.l ++ parsed ∷ [];
     at = reached_by d s u w has.l going name index k values (pending v) goes_on has.at found (grows (declared.table d.options) u v w name k values has.at.upto.line kind_so next reads) line within (fits k v w values reads) goes_is;
     words_are = words_append has.l (parsed ∷ []) ∙ ap (λ ws. positional_words has.l ++ ws) (no_words index values) ∙ append_none (positional_words has.l) ∙ has.words_are;
-    are_seen = subst (AreSeen d.options (has.l ++ parsed ∷ [])) (sym seen_is) (seen_more d.options has.l seen index parsed (option_with index values) has.are_seen);
     accepted_is = accepted_more d.options has.l parsed ∙ ap (λ b. b && is_none (refused_value d.options parsed)) has.accepted_is ∙ ap (λ b. accepted && b) own_is;
-    asked_is = unasked_more d.options has.l parsed ∙ ap (λ b. b && is_none (asked_by d.options parsed)) has.asked_is ∙ ap (λ b. unasked && b) (ap is_none (asked_here d.options index values o there) ∙ sym nothing_is);
     last_is = read_last has.l index parsed value (option_with index values) value_is;
   },
   read.shorter,
@@ -276,10 +244,9 @@ has_option d s u v w words seen seen_now accepted own unasked nothing last going
     within = same_within has.l parsed (most d.positionals) (no_count index values) has.at.upto.within
 
 -- the same, as calls return it
-pub same_reached : (d : Declaration) (s u : UnreadLine) (words : List (List ℕ)) (seen : List ℕ) (a b m n : Bool) (l k : Option (ℕ × List ℕ)) (g h : Option ℕ) → a ≡ b → m ≡ n → l ≡ k → g ≡ h → HasReached d s u words seen b n k h → HasReached d s u words seen a m l g
-same_reached d s u words seen a b m n l k g h a_is m_is l_is g_is has =
-    subst (λ (x : Bool). HasReached d s u words seen x m l g) (sym a_is) (subst (λ (x : Bool). HasReached d s u words seen b x l g) (sym m_is)
-    (subst (λ (x : Option (ℕ × List ℕ)). HasReached d s u words seen b n x g) (sym l_is) (subst (λ (x : Option ℕ). HasReached d s u words seen b n k x) (sym g_is) has)))
+pub same_reached : (d : Declaration) (s u : UnreadLine) (words : List (List ℕ)) (a b : Bool) (l k : Option (ℕ × List ℕ)) (g h : Option ℕ) → a ≡ b → l ≡ k → g ≡ h → HasReached d s u words b k h → HasReached d s u words a l g
+same_reached d s u words a b l k g h a_is l_is g_is has =
+    subst (λ (x : Bool). HasReached d s u words x l g) (sym a_is) (subst (λ (x : Option (ℕ × List ℕ)). HasReached d s u words b x g) (sym l_is) (subst (λ (x : Option ℕ). HasReached d s u words b k x) (sym g_is) has))
 
 -- ---- the option itself
 
@@ -293,9 +260,9 @@ option_there options os o name index same found is = view_there options index o 
 
 -- ---- where the reading ends
 
-pub starts : {d : Declaration} {s u : UnreadLine} {words own : List (List ℕ)} {seen : List ℕ} {accepted unasked : Bool} {last : Option (ℕ × List ℕ)} {going : Option ℕ} → s ≡ start d.short_equals words → HasReached d s u own seen accepted unasked last going
-    → HasReached d (start d.short_equals words) u own seen accepted unasked last going
-starts {d} {s} {u} {words} {own} {seen} {accepted} {unasked} {last} {going} is has = subst (λ x. HasReached d x u own seen accepted unasked last going) is has
+pub starts : {d : Declaration} {s u : UnreadLine} {words own : List (List ℕ)} {accepted : Bool} {last : Option (ℕ × List ℕ)} {going : Option ℕ} → s ≡ start d.short_equals words → HasReached d s u own accepted last going
+    → HasReached d (start d.short_equals words) u own accepted last going
+starts {d} {s} {u} {words} {own} {accepted} {last} {going} is has = subst (λ x. HasReached d x u own accepted last going) is has
 
 -- what words mean is what was read of them
 means_read : (d : Declaration) (words : List (List ℕ)) (l : List Parsed) (state : spec.State) → Leaves d words l state → (m : List Parsed) → MeansFront d words m → m ≡ l
@@ -306,9 +273,9 @@ means_read d words l (spec.further i) (leaves_further j before values is says mo
 means_read d words l spec.ended (leaves_ended says more) m means = says_once d words m l (front_says d words m means) says
 
 -- at the end of the words
-pub front_at_end : (d : Declaration) (u v : UnreadLine) (words : List (List ℕ)) (front : Front) (seen : List ℕ) (unasked : Bool) (going : Option ℕ) → is_sound d.options ≡ true
-    → HasReached d (start d.short_equals words) u front.words.items seen front.accepted unasked front.last going → Next u steps.end v → state_view front.state ≡ state_at_end going v.ended → IsFront d words front
-front_at_end d u v words front seen unasked going sound has next state_is =
+pub front_at_end : (d : Declaration) (u v : UnreadLine) (words : List (List ℕ)) (front : Front) (going : Option ℕ) → is_sound d.options ≡ true
+    → HasReached d (start d.short_equals words) u front.words.items front.accepted front.last going → Next u steps.end v → state_view front.state ≡ state_at_end going v.ended → IsFront d words front
+front_at_end d u v words front going sound has next state_is =
     let leaves = subst (Leaves d words has.l) (sym state_is) (end_leaves d words has.l going u v sound has.at next) in
     record {
       l = has.l;
@@ -343,24 +310,24 @@ lacking d words front l state state_is no_last leaves none within words_are acce
 }
 
 -- where an option lacks a value at the end of the words
-pub front_lacking : (d : Declaration) (u v w : UnreadLine) (words : List (List ℕ)) (front : Front) (seen : List ℕ) (unasked : Bool) (last : Option (ℕ × List ℕ)) (going : Option ℕ) (name : Name) (index : ℕ) → is_sound d.options ≡ true
-    → HasReached d (start d.short_equals words) u front.words.items seen front.accepted unasked last going → front.last ≡ None → Next u (option_reply name) v → index_of d.options name ≡ Some index → (state_is : State) → front.state ≡ state_is
+pub front_lacking : (d : Declaration) (u v w : UnreadLine) (words : List (List ℕ)) (front : Front) (last : Option (ℕ × List ℕ)) (going : Option ℕ) (name : Name) (index : ℕ) → is_sound d.options ≡ true
+    → HasReached d (start d.short_equals words) u front.words.items front.accepted last going → front.last ≡ None → Next u (option_reply name) v → index_of d.options name ≡ Some index → (state_is : State) → front.state ≡ state_is
     → IsAfterName d index v (after.Lacks state_is) w → IsFront d words front
-front_lacking d u v w words front seen unasked last going name index sound has no_last next found (state.Due i) state_is (same, k, none, empty) =
+front_lacking d u v w words front last going name index sound has no_last next found (state.Due i) state_is (same, k, none, empty) =
     let leaves = subst (λ (j : ℕ). Leaves d words has.l (spec.due j)) (sym same) (value_due d words has.l going u v name index sound has.at next found (sym (kind_of_index d.options name index sound found) ∙ k) none empty) in
     lacking d words front has.l (spec.due i) (ap state_view state_is) no_last leaves (λ m. no_front_due leaves m) has.at.upto.within has.words_are has.accepted_is
   where
     no_front_due : {l : List Parsed} → Leaves d words l (spec.due i) → (m : List Parsed) → MeansFront d words m → ⊥
     no_front_due (leaves_due j none more) m means = none m means
-front_lacking d u v w words front seen unasked last going name index sound has no_last next found (state.First i) state_is (same, k, none, empty) =
+front_lacking d u v w words front last going name index sound has no_last next found (state.First i) state_is (same, k, none, empty) =
     let leaves = subst (λ (j : ℕ). Leaves d words has.l (spec.first j)) (sym same) (first_due d words has.l going u v name index sound has.at next found (sym (kind_of_index d.options name index sound found) ∙ k) none empty) in
     lacking d words front has.l (spec.first i) (ap state_view state_is) no_last leaves (λ m. no_front_first leaves m) has.at.upto.within has.words_are has.accepted_is
   where
     no_front_first : {l : List Parsed} → Leaves d words l (spec.first i) → (m : List Parsed) → MeansFront d words m → ⊥
     no_front_first (leaves_first j none more nor) m means = none m means
-front_lacking d u v w words front seen unasked last going name index sound has no_last next found state.Anything state_is lacks = absurd lacks
-front_lacking d u v w words front seen unasked last going name index sound has no_last next found (state.Further i) state_is lacks = absurd lacks
-front_lacking d u v w words front seen unasked last going name index sound has no_last next found state.Ended state_is lacks = absurd lacks
+front_lacking d u v w words front last going name index sound has no_last next found state.Anything state_is lacks = absurd lacks
+front_lacking d u v w words front last going name index sound has no_last next found (state.Further i) state_is lacks = absurd lacks
+front_lacking d u v w words front last going name index sound has no_last next found state.Ended state_is lacks = absurd lacks
 
 -- ---- what can come after words that mean this
 

@@ -14,3 +14,4 @@ pub mod Accepted
 pub mod Given
 pub mod KeysGiven
 pub mod Looked
+pub mod RestRead

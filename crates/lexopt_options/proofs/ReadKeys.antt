@@ -8,12 +8,11 @@ use Rattle.lexopt_base.specs.Replies.{RepliesWith}
 use Rattle.lexopt_base.specs.declared.parser.Found.{Found}
 use Rattle.lexopt_base.specs.declared.parser.Found.TheVariants as found
 use Rattle.lexopt_options_spec.specs.Asking.{asked_by, first_asked, parsed_before}
-use Rattle.lexopt_options_spec.specs.Leading.{IsOfOption}
 use Rattle.lexopt_options_spec.specs.Legal as legal
 use Rattle.lexopt_options_spec.proofs.Listed.{accepted_append}
 use Rattle.lexopt_options_spec.proofs.Fronts.{nothing_read}
 use Rattle.lexopt_options_spec.specs.Legal.{IsWithin, are_accepted, counts, is_required, occurs, positional_count, refused_value}
-use Rattle.lexopt_options_spec.specs.Stops.{Stops}
+use Rattle.lexopt_options_spec.specs.Stops.{IsOfOption, Stops}
 use Rattle.lexopt_declaration.specs.declared.declaration.Declared.{Declared}
 use Rattle.lexopt_line_spec.specs.Readings.{option_reply, start}
 use Rattle.lexopt_line_spec.specs.Table.{Kind, Name}

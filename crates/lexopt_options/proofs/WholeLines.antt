@@ -39,7 +39,7 @@ use Rattle.lexopt_options.proofs.Seen.{none_required}
 use Rattle.lexopt_options.proofs.TakenWords.{all_taken}
 
 -- words that are read to the end of the line mean what was read
-front : (d : Declaration) (words : List (List ℕ)) (l : List legal.Parsed) (v w : UnreadLine) → is_sound d.options ≡ true → ReadsUpTo d (start d.short_equals words) l v → Next v steps.end w
+pub front : (d : Declaration) (words : List (List ℕ)) (l : List legal.Parsed) (v w : UnreadLine) → is_sound d.options ≡ true → ReadsUpTo d (start d.short_equals words) l v → Next v steps.end w
     → MeansFront d words l
 front d words l v w sound read ends =
     front_parsed d sound words read.items l

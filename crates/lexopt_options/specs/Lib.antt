@@ -8,6 +8,7 @@ pub mod Mistakes
 pub mod Lines
 pub mod States
 pub mod Begun
+pub mod RestLines
 pub mod Names
 pub mod Completions
 pub mod Roles

@@ -12,13 +12,12 @@ use Rattle.lexopt_options_spec.specs.Asking.{AskFor, first_asked, parsed_before}
 use Rattle.lexopt_options_spec.specs.Declaration as declared
 use Rattle.lexopt_options_spec.specs.Declaration.{Declaration, has, index_of}
 use Rattle.lexopt_options_spec.specs.Completion.{IsOption}
-use Rattle.lexopt_options_spec.specs.Leading.{IsOfOption}
 use Rattle.lexopt_options_spec.specs.Legal as spec
 use Rattle.lexopt_options_spec.specs.Legal.{IsWithin, are_accepted, counts, is_required, most, occurs}
 use Rattle.lexopt_options_spec.specs.Legal.{positional_count, positional_words, refused_value, parsed_item}
 use Rattle.lexopt_options_spec.specs.Places.{AreTaken, least}
 use Rattle.lexopt_options_spec.specs.Stops as stops
-use Rattle.lexopt_options_spec.specs.Stops.{ReadsUpTo, Stops, StopsAt}
+use Rattle.lexopt_options_spec.specs.Stops.{IsOfOption, ReadsUpTo, Stops, StopsAt}
 use Rattle.lexopt_options.specs.declared.mistake.Mistake.{Mistake}
 use Rattle.lexopt_options.specs.declared.options.Options.{Options}
 use Rattle.lexopt_options.specs.declared.parsed.Parsed.{Parsed}

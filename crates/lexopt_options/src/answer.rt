@@ -306,14 +306,8 @@ impl<F, V, P, M, S> Options<'_, F, V, P, M, S> {
         self.completion_text_after(alloc, &front, typed)
     }
 
-    /// Returns the text of [`Options::completion_text`] where `typed` is typed after words that
-    /// mean `front`, as `read_front` returns it. It is for libraries; a program calls
-    /// `completion_text`.
-    ///
-    /// # Errors
-    ///
-    /// Returns `AllocError` if an allocation fails.
-    pub fn completion_text_after(
+    // The text of `completion_text` where `typed` is typed after words that mean this.
+    pub(crate) fn completion_text_after(
         &self,
         alloc: Global,
         front: &Option<Front>,

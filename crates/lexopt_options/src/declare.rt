@@ -1,14 +1,22 @@
 //! `declare!`, `declare_group!` and `declare_option!`: a declaration, a group of options, or one
 //! option, with a line for each option.
 
+use lexopt_declaration::declaration::Names;
+
+/// The [`aliases`](crate::Declared::aliases) of an option without any. Beside texts that are made
+/// when the program runs, the borrow checker accepts it, but not `&[]`.
+pub const NO_ALIASES: &[Names<'static>] = &[];
+
 /// Makes a [`Declaration`](crate::Declaration), as the value of a constant, a static or a local.
 ///
-/// `program` and `options` are required. `about`, `positionals`, `epilogue` and `short_equals` may
-/// be left out. All of them come in the order of this list:
+/// `program` and `options` are required. `about`, `usage`, `positionals`, `epilogue` and
+/// `short_equals` may be left out. All of them come in the order of this list:
 ///
 /// - `program` is the name under which the program is installed
 ///   ([`Declaration::program`](crate::Declaration::program)), or the name of a command.
 /// - `about` says what the program does, in a sentence or two.
+/// - `usage: ["..", ".."]` has what comes after the name in each usage line of the help, in place
+///   of the usage line that is generated.
 /// - `options` has a line for each option, as described below.
 /// - `positionals` has a line for each positional, as described below.
 /// - `epilogue: ["..", ".."]` has paragraphs for the end of the help.
@@ -30,8 +38,14 @@
 ///
 /// - `.hidden()` leaves the option out of the help. Shells do not offer its names, and no hint has
 ///   its long name.
+/// - `.heading("Output options")` begins a group in the help with the line `Output options:`. The
+///   group ends before the next option that has a heading. If the option is hidden, the heading is
+///   left out with it.
 /// - `.required()` makes it an option that every line has to have.
+/// - `.alias(Names::Long("colour"))` gives it further names, which lines may have like its own. The
+///   help, messages, hints and shells show its own names only. Several of these may follow.
 /// - `.one_of(&["fast", "slow"])` lists the values that it accepts, which shells offer.
+/// - `.hide_list()` leaves that list out of the help.
 /// - `.directories()` has shells offer the names of directories for its values.
 /// - `.text()` has shells offer nothing for its values.
 ///
@@ -41,7 +55,7 @@
 /// A line of `positionals` has a key, a placeholder and a help text, which may be left out:
 /// `once(key, placeholder, help text)`, `at_most_once(..)`, `any_number(..)` or
 /// `at_least_once(..)`. At most one positional may be declared by `any_number` or `at_least_once`.
-/// After it may come `.one_of(..)`, `.directories()` or `.text()`.
+/// After it may come `.one_of(..)`, `.hide_list()`, `.directories()` or `.text()`.
 ///
 /// The macro does not check the declaration; [`Options::new`](crate::Options::new) does.
 ///
@@ -86,6 +100,7 @@ macro_rules! declare {
     (
         program: $program:expr
         $(, about: $about:expr)?
+        $(, usage: [$($usage:expr),* $(,)?])?
         , options: [$($option:ident $given:tt $(.$mark:ident $marked:tt)*),* $(,)?]
         $(, positionals: [
             $($count:ident($key:expr, $placeholder:expr $(, $text:expr)? $(,)?)
@@ -98,6 +113,7 @@ macro_rules! declare {
         $crate::Declaration {
             program: $program,
             about: $crate::declare!(@or "" $(, $about)?),
+            usage: &[$($($usage),*)?],
             options: &[$($crate::declare!(@$option $given $(.$mark $marked)*)),*],
             positionals: &[$($($crate::Positional {
                 key: $key,
@@ -105,6 +121,7 @@ macro_rules! declare {
                 count: $crate::declare!(@$count),
                 help: $crate::declare!(@or "" $(, $text)?),
                 words: $crate::declare!(@words $crate::Words::Files, $(.$limit $limited)*),
+                hides_list: false $(|| $crate::declare!(@hides_list $limit))*,
             }),*)?],
             epilogue: &[$($($paragraph),*)?],
             short_equals: true $(&& $short_equals)?,
@@ -135,15 +152,35 @@ macro_rules! declare {
             names: $names,
             kind: $kind,
             help: $help,
+            heading: $crate::declare!(@heading "", $(.$mark $marked)*),
             hidden: false $(|| $crate::declare!(@is_hidden $mark))*,
             required: false $(|| $crate::declare!(@is_required $mark))*,
             words: $crate::declare!(@option_words $crate::Words::Files, $(.$mark $marked)*),
+            hides_list: false $(|| $crate::declare!(@hides_list $mark))*,
+            aliases: $crate::declare!(@aliases [] $(.$mark $marked)*),
         }
     };
     (@is_hidden hidden) => { true };
     (@is_hidden $mark:ident) => { false };
     (@is_required required) => { true };
     (@is_required $mark:ident) => { false };
+    (@hides_list hide_list) => { true };
+    (@hides_list $mark:ident) => { false };
+    (@heading $heading:expr,) => { $heading };
+    (@heading $heading:expr, .heading($given:expr $(,)?) $($mark:tt)*) => {
+        $crate::declare!(@heading $given, $($mark)*)
+    };
+    (@heading $heading:expr, .$mark:ident $marked:tt $($marks:tt)*) => {
+        $crate::declare!(@heading $heading, $($marks)*)
+    };
+    (@aliases []) => { $crate::NO_ALIASES };
+    (@aliases [$($alias:expr),+]) => { &[$($alias),+] };
+    (@aliases [$($alias:expr),*] .alias($names:expr $(,)?) $($mark:tt)*) => {
+        $crate::declare!(@aliases [$($alias,)* $names] $($mark)*)
+    };
+    (@aliases [$($alias:expr),*] .$mark:ident $marked:tt $($marks:tt)*) => {
+        $crate::declare!(@aliases [$($alias),*] $($marks)*)
+    };
     (@option_words $words:expr,) => { $words };
     (@option_words $words:expr, .hidden() $($mark:tt)*) => {
         $crate::declare!(@option_words $words, $($mark)*)
@@ -151,10 +188,22 @@ macro_rules! declare {
     (@option_words $words:expr, .required() $($mark:tt)*) => {
         $crate::declare!(@option_words $words, $($mark)*)
     };
+    (@option_words $words:expr, .heading $marked:tt $($mark:tt)*) => {
+        $crate::declare!(@option_words $words, $($mark)*)
+    };
+    (@option_words $words:expr, .hide_list() $($mark:tt)*) => {
+        $crate::declare!(@option_words $words, $($mark)*)
+    };
+    (@option_words $words:expr, .alias $names:tt $($mark:tt)*) => {
+        $crate::declare!(@option_words $words, $($mark)*)
+    };
     (@option_words $words:expr, .$limit:ident $limited:tt $($mark:tt)*) => {
         $crate::declare!(@option_words $crate::declare!(@$limit $limited), $($mark)*)
     };
     (@words $words:expr,) => { $words };
+    (@words $words:expr, .hide_list() $($mark:tt)*) => {
+        $crate::declare!(@words $words, $($mark)*)
+    };
     (@words $words:expr, .$limit:ident $limited:tt $($mark:tt)*) => {
         $crate::declare!(@words $crate::declare!(@$limit $limited), $($mark)*)
     };

@@ -1,22 +1,20 @@
 //! What words mean as the beginning of a line, and what the next word is. `read.rt` reads a whole
 //! line by keys.
-ghost use Rattle.std.specs.Prelude.{◌≡◌, ◌≢◌, ◌↔◌, ◌&&◌, ℕ, [], false, IfOk, IsTrue, is_none};
-ghost use Rattle.std.specs.Prelude.{List, None, Some, slice_get, true};
+ghost use Rattle.std.specs.Prelude.{◌≡◌, ◌≢◌, ◌↔◌, ◌&&◌, ℕ, [], IfOk, IsTrue, List, None, Some};
+ghost use Rattle.std.specs.Prelude.{slice_get};
 ghost use Rattle.lexopt_spec.specs.UnreadLine.{IsLine, pending};
 ghost use Rattle.lexopt_line_spec.specs.Readings.{start};
 ghost use Rattle.lexopt_options_spec.specs.Declaration.{Declaration};
 ghost use Rattle.lexopt_options_spec.specs.States as spec;
-ghost use Rattle.lexopt_options_spec.specs.States.{is_further};
 ghost use Rattle.lexopt_declaration.specs.Models.{option_view};
 ghost use Rattle.lexopt_options.specs.Begun.{IsBegun};
 ghost use Rattle.lexopt_options.specs.Declarations.{declaration_of};
-ghost use Rattle.lexopt_options.specs.Reading.{AllSeen};
 ghost use Rattle.lexopt_options.specs.States.{IsAfterName, first_of, index_if};
 ghost use Rattle.lexopt_options.specs.States.{state_view, with_index};
 
 use crate::listed::{accepts, refused_place};
 use crate::options::Options;
-use crate::read::{Outcome, is_full, missing_option, note, read_next};
+use crate::read::{Outcome, is_full, read_next};
 use lexopt_base::parser::Parser;
 use lexopt_base::refusal::Refusal;
 use lexopt_base::values::read_several;
@@ -24,47 +22,45 @@ use lexopt_declaration::declaration::{Declared, Kind};
 use lexopt_words::os_string::OsString;
 use std::alloc::{AllocError, Global};
 
-/// What the next word of a line is.
+// What the next word of a line is.
 #[derive(Clone, Copy)]
-pub enum State {
-    /// An option, the separator or a positional.
+pub(crate) enum State {
+    // An option, the separator or a positional.
     Anything,
-    /// The value of the option at this index, whatever it looks like.
+    // The value of the option at this index, whatever it looks like.
     Due(usize),
-    /// The first of several values of the option at this index: a plain word.
+    // The first of several values of the option at this index: a plain word.
     First(usize),
-    /// One more of several values of the option at this index if it is plain; otherwise an option
-    /// or the separator.
+    // One more of several values of the option at this index if it is plain; otherwise an option or
+    // the separator.
     Further(usize),
-    /// A positional, whatever it looks like.
+    // A positional, whatever it looks like.
     Ended,
 }
 
-/// What words mean as the beginning of a line.
+// What words mean as the beginning of a line.
 #[derive(Drop)]
-pub struct Front {
-    /// The positionals.
-    pub words: Vec<OsString>,
-    /// Whether each option accepts its values.
-    pub accepted: bool,
-    /// If what is read last is an option that has a value: its index, and its first value.
-    pub last: Option<(usize, OsString)>,
-    /// What the next word is.
-    pub state: State,
+pub(crate) struct Front {
+    // The positionals.
+    pub(crate) words: Vec<OsString>,
+    // Whether each option accepts its values.
+    pub(crate) accepted: bool,
+    // If what is read last is an option that has a value: its index, and its first value.
+    pub(crate) last: Option<(usize, OsString)>,
+    // What the next word is.
+    pub(crate) state: State,
 }
 
-/// What words mean, as the beginning of a line and as leading options.
+// What words mean as the beginning of a line, or that they have a rest.
 #[derive(Drop)]
-pub enum Begun {
-    /// This word, which was read last, is one positional too many. So they mean nothing as the
-    /// beginning of a line, and nothing with any one word after them. If no positionals are
-    /// declared, it is the first word after legal leading options that ask for nothing.
+pub(crate) enum Begun {
+    // This word, which was read last, is one positional too many. So the words mean nothing as the
+    // beginning of a line, and nothing with any one word after them. If it and the words after it
+    // are left to another program, it is the first of them.
     Rest(OsString),
-    /// This is what they mean as the beginning of a line; `None` if they mean nothing, and nothing
-    /// with any one word after them. If no positionals are declared, no word comes after legal
-    /// leading options that ask for nothing, and this is whether a plain word that comes right
-    /// after the words would be the first.
-    Front(Option<Front>, bool),
+    // This is what they mean as the beginning of a line; `None` if they mean nothing, and nothing
+    // with any one word after them. No word is one positional too many.
+    Front(Option<Front>),
 }
 
 // What is read of an option after its name.
@@ -213,63 +209,8 @@ fn index_if(holds: bool, index: usize) -> Option<usize>
     if holds { Some(index) } else { None }
 }
 
-// Whether an option asks for nothing.
-fn asks_nothing<F, V, M, S>(option: &Declared<'_, F, V, M, S>) -> bool
-    ensures { result ≡ is_none (option_view option.now).asks }
-{
-    !matches!(option.kind, Kind::Help | Kind::Version(_))
-}
-
-// Whether each required option is among these, and the options accept their values and ask for
-// nothing: `accepted` and `unasked`.
-fn are_legal<F, V, P, M, S>(
-    options: &Options<'_, F, V, P, M, S>,
-    seen: &[usize],
-    accepted: bool,
-    unasked: bool,
-) -> bool
-    ensures { IsTrue result ↔ AllSeen (declaration_of options.now).options seen.now
-        × (accepted ≡ true) × (unasked ≡ true) }
-{
-    if !are_both(accepted, unasked) {
-        return false;
-    }
-    missing_option(options, seen).is_none()
-}
-
-// Whether a plain word would be one more value of an option in this state.
-fn is_further(state: State) -> bool
-    ensures { result ≡ is_further (state_view state) }
-{
-    matches!(state, State::Further(_))
-}
-
-// Whether a plain word would come first after options of which these were seen: they are legal, ask
-// for nothing, and would not take the word as one more value.
-fn can_end<F, V, P, M, S>(
-    options: &Options<'_, F, V, P, M, S>,
-    seen: &[usize],
-    accepted: bool,
-    unasked: bool,
-    state: State,
-) -> bool
-    ensures { IsTrue result ↔ (AllSeen (declaration_of options.now).options seen.now
-        × (accepted ≡ true) × (unasked ≡ true)) × (is_further (state_view state) ≡ false) }
-{
-    if is_further(state) {
-        return false;
-    }
-    are_legal(options, seen, accepted, unasked)
-}
-
-/// Reads words as the beginning of a line, up to one positional too many. `parser` is one that
-/// [`Options::parser_of`] returned, of which nothing was read. It is for libraries; a program calls
-/// [`Options::complete`].
-///
-/// # Errors
-///
-/// Returns `AllocError` if an allocation fails.
-pub fn read_front<F, V, P, M, S>(
+// Reads words as the beginning of a line, up to one positional too many.
+pub(crate) fn read_front<F, V, P, M, S>(
     alloc: Global,
     parser: &mut Parser,
     options: &Options<'_, F, V, P, M, S>,
@@ -282,18 +223,13 @@ pub fn read_front<F, V, P, M, S>(
     let limit = options.most();
     let declared = options.options();
     let mut words = Vec::new(alloc);
-    let mut seen = Vec::new(alloc);
     let mut all_accepted = true;
-    let mut unasked = true;
     let mut last = None;
     let mut going_on = None;
     loop {
         match read_next(parser, options)? {
             Outcome::Option(index) => {
-                let option = &declared[index];
-                note(option.required, index, &mut seen)?;
-                unasked = are_both(unasked, asks_nothing(option));
-                match read_after_name(alloc, parser, option, index)? {
+                match read_after_name(alloc, parser, &declared[index], index)? {
                     AfterName::Values {
                         accepted,
                         first,
@@ -310,43 +246,64 @@ pub fn read_front<F, V, P, M, S>(
                             last: None,
                             state,
                         };
-                        return Ok(Begun::Front(Some(front), false));
+                        return Ok(Begun::Front(Some(front)));
                     }
-                    AfterName::Missing => return Ok(Begun::Front(None, false)),
+                    AfterName::Missing => return Ok(Begun::Front(None)),
                 }
             }
             Outcome::Positional(word) => {
                 if is_full(limit, words.len()) {
-                    if are_legal(options, &seen, all_accepted, unasked) {
-                        return Ok(Begun::Rest(word));
-                    }
-                    return Ok(Begun::Front(None, false));
+                    return Ok(Begun::Rest(word));
                 }
                 words.push(word)?;
                 last = None;
                 going_on = None;
             }
             Outcome::End => {
-                let state = state_at_end(going_on, parser.is_past_separator());
-                let ends = can_end(options, &seen, all_accepted, unasked, state);
                 let front = Front {
                     words,
                     accepted: all_accepted,
                     last,
-                    state,
+                    state: state_at_end(going_on, parser.is_past_separator()),
                 };
-                return Ok(Begun::Front(Some(front), ends));
+                return Ok(Begun::Front(Some(front)));
             }
-            Outcome::Undeclared(_) => return Ok(Begun::Front(None, false)),
-            Outcome::Unexpected(..) => return Ok(Begun::Front(None, false)),
+            Outcome::Undeclared(_) => return Ok(Begun::Front(None)),
+            Outcome::Unexpected(..) => return Ok(Begun::Front(None)),
         }
     }
 }
 
+// Whether a plain word is a positional in this state.
+fn takes_positional(state: State) -> bool
+    ensures { result ≡ spec.takes_positional (state_view state) }
+{
+    matches!(state, State::Anything | State::Ended)
+}
+
 impl<F, V, P, M, S> Options<'_, F, V, P, M, S> {
-    ghost use Rattle.std.specs.Prelude.{IfOk};
+    ghost use Rattle.std.specs.Prelude.{IfOk, List, ℕ};
+    ghost use Rattle.lexopt_options.specs.Begun.{TellsRest};
     ghost use Rattle.lexopt_options.specs.Declarations.{declaration_of};
     ghost use Rattle.lexopt_options.specs.States.{IsFrontOf};
+
+    // Whether a word that is plain even without a separator before it, such as `add`, would be one
+    // positional too many after words that mean this.
+    pub(crate) fn begins_rest(&self, front: &Option<Front>) -> bool
+        ensures { (words : List (List ℕ)) → IsFrontOf (declaration_of self.now) words front.now
+            → TellsRest (declaration_of self.now) words result }
+    {
+        match front {
+            Some(front) => {
+                if takes_positional(front.state) {
+                    is_full(self.most(), front.words.len())
+                } else {
+                    false
+                }
+            }
+            None => false,
+        }
+    }
 
     // What words mean as the beginning of a line, and what the next word is; `None` if they mean
     // nothing, and nothing with any one word after them.
@@ -360,7 +317,7 @@ impl<F, V, P, M, S> Options<'_, F, V, P, M, S> {
         let mut parser = self.parser_of(words);
         match read_front(alloc, &mut parser, self)? {
             Begun::Rest(_) => Ok(None),
-            Begun::Front(front, _) => Ok(front),
+            Begun::Front(front) => Ok(front),
         }
     }
 }

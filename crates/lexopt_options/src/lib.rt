@@ -155,8 +155,9 @@
 //! - [`declare!`](crate::declare) lists what a line of the declaration can be. `.required()` is for
 //!   an option that each line must have, `.one_of(&["fast", "slow"])` for values in a list,
 //!   `.hidden()` for an option that the help leaves out and whose names shells and hints do not
-//!   have. For values and positionals shells offer the names of files; after `.directories()` those
-//!   of directories, and after `.text()` nothing.
+//!   have, and `.alias(Names::Long("colour"))` for a further name, which only lines have. For
+//!   values and positionals shells offer the names of files; after `.directories()` those of
+//!   directories, and after `.text()` nothing.
 //!
 //! # What to call
 //!
@@ -187,9 +188,7 @@
 //!   returns the request for the help, and the mistake, as values. [`Options::help`] and
 //!   [`Options::usage`] return texts; [`columns`] is the width for them.
 //! - A program with commands names `lexopt_commands` too. So does one whose line goes on with the
-//!   words of another program, as that of `env` does: it calls `read_leading` of that crate.
-//! - The modules `front` and `read` are for libraries that read a part of a line, as
-//!   `lexopt_commands` does.
+//!   words of another program, as that of `timeout` does: `Wrapper` of that crate reads it.
 //!
 //! # Completion in a shell
 //!
@@ -218,25 +217,28 @@
 pub mod answer;
 pub mod complete;
 mod declare;
-pub mod front;
+mod front;
 mod listed;
 pub mod mistake;
 pub mod options;
 pub mod parsed;
 mod places;
-pub mod read;
+mod read;
 pub mod refused;
 pub mod request;
+pub mod rest;
 mod taken;
 pub mod usage;
 
 pub use answer::{Answer, columns};
 pub use complete::{Completion, Joined, Role};
+pub use declare::NO_ALIASES;
 pub use mistake::{Mistake, OptionName};
 pub use options::Options;
 pub use parsed::{Asked, Parsed};
 pub use refused::{Line, Refused, USAGE_ERROR};
 pub use request::Request;
+pub use rest::{RestCompletion, complete_rest, read_rest};
 pub use usage::{Report, UsageError};
 
 // The parts of a declaration, and the scripts for shells.

@@ -178,6 +178,14 @@ impl<'a, F, V, P, M, S> Options<'a, F, V, P, M, S> {
         self.declaration.about
     }
 
+    /// Returns what comes after the name in each usage line; the empty slice if the usage line is
+    /// generated.
+    pub fn usage_texts(&self) -> &'a [&'a str]
+        ensures { map (λ text. text.now) result.now ≡ (declaration_of self.now).usage }
+    {
+        self.declaration.usage
+    }
+
     /// Returns the options, in the order of the declaration.
     pub fn options(&self) -> &'a [Declared<'a, F, V, M, S>]
         ensures same { result.now ≡ options_of self.now }
@@ -233,15 +241,21 @@ impl<'a, F, V, P, M, S> Options<'a, F, V, P, M, S> {
         self.has_required
     }
 
-    /// Returns the usage line, wrapped to `width` columns, with a line feed at its end.
+    /// Returns the usage, wrapped to `width` columns: a line, or several, each with a line feed at
+    /// its end.
     ///
-    /// It has the name of the program; `[OPTION]...` if an option that is neither hidden nor
-    /// required is declared; each required option that is not hidden, by its long name if it has
-    /// one, with its value; and each positional by its placeholder: `FILE` if it is required,
-    /// `[FILE]` if it may be left out, `[FILE]...` for any number, `FILE...` for at least one.
+    /// The usage line has the name of the program; `[OPTION]...` if an option that is neither
+    /// hidden nor required is declared; each required option that is not hidden, by its long name
+    /// if it has one, with its value; and each positional by its placeholder: `FILE` if it is
+    /// required, `[FILE]` if it may be left out, `[FILE]...` for any number, `FILE...` for at least
+    /// one.
     ///
-    /// If it does not fit into `width` columns it goes on at column 7 of the next line, counted
-    /// from 0. [`Options::help`] describes what a column is.
+    /// If the declaration has texts for the usage, it has a usage line for each of them instead,
+    /// with the name and the words of the text. Each but the first begins with `  or:  ` in place
+    /// of `Usage: `.
+    ///
+    /// A usage line that does not fit into `width` columns goes on at column 7 of the next line,
+    /// counted from 0. [`Options::help`] describes what a column is.
     ///
     /// # Errors
     ///
@@ -267,16 +281,17 @@ impl<'a, F, V, P, M, S> Options<'a, F, V, P, M, S> {
 
     /// Returns the help, wrapped to `width` columns: what a program prints for `--help`.
     ///
-    /// It has these parts, in this order: the usage line; what the program does; an entry for each
-    /// positional that has a word in its help text, or a list; an entry for each option that is not
-    /// hidden; and the paragraphs of the epilogue that have a word. Entries are in the order of the
-    /// declaration. An empty line comes before the first positional, before the first option, and
-    /// before each paragraph of the epilogue. Each line ends with a line feed.
+    /// It has these parts, in this order: the usage; what the program does; an entry for each
+    /// positional that has a word in its help text, or a list that is not hidden; an entry for each
+    /// option that is not hidden, after its heading if it has one; and the paragraphs of the
+    /// epilogue that have a word. Entries are in the order of the declaration. An empty line comes
+    /// before the first positional, before the first option, before each heading, and before each
+    /// paragraph of the epilogue. Each line ends with a line feed.
     ///
     /// The text of an entry begins at column 24, counted from 0, or at a third of `width` if that
     /// is less: on the line of its label if at least two blanks are between them, otherwise on the
-    /// next line. A line takes as many words as fit into `width` columns. No word and no label is
-    /// broken, so a wide word makes a wide line.
+    /// next line. A line takes as many words as fit into `width` columns. No word, no label and no
+    /// heading is broken, so a wide word makes a wide line.
     ///
     /// A column is a grapheme cluster, which a person sees as one character. It counts once even if
     /// a terminal gives it two cells. [`WIDTH`](crate::WIDTH) is for a terminal whose width is not

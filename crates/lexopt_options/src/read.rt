@@ -1,5 +1,4 @@
-//! Reads a whole line by a declaration. `leading.rt` of `lexopt_commands` reads only the leading
-//! options.
+//! Reads a whole line by a declaration. `rest.rt` reads a line whose rest is not read.
 ghost use Rattle.std.specs.Prelude.{◌≡◌, ◌≢◌, ◌≤◌, ◌↔◌, ℕ, List, IfOk, OnOk, slice_get, true};
 ghost use Rattle.std.specs.Prelude.{IsTrue, None, Option, Some, false, length, map};
 ghost use Rattle.std.specs.List.{list_any};
@@ -25,7 +24,7 @@ ghost use Rattle.lexopt_options.specs.Keys.{asked_view, parsed_words};
 ghost use Rattle.lexopt_options.specs.Kinds as kinds;
 ghost use Rattle.lexopt_options.specs.Taken.{has_list};
 ghost use Rattle.lexopt_options.specs.Mistakes.{AreNames, IsMistake};
-ghost use Rattle.lexopt_options.specs.Lines.{IsLineRead};
+ghost use Rattle.lexopt_options.specs.Lines.{IsLineRead, IsRefused};
 ghost use Rattle.lexopt_options.specs.Reading.{AllSeen, ComesNext, UndeclaredNext};
 ghost use Rattle.lexopt_options.specs.Reading.{HasEnded, HasRead, HasStopped, IsFirstUnseen};
 ghost use Rattle.lexopt_options.specs.Reading.{IsNothing, IsReadByKey, IsRight, IsWrong};
@@ -65,38 +64,34 @@ pub(crate) enum Outcome {
     Unexpected(String, OsString),
 }
 
-/// How the reading of a line ended.
+// How the reading of a line ended.
 #[derive(Drop)]
-pub enum Ended<'a> {
-    /// The line was read to its end.
+pub(crate) enum Ended<'a> {
+    // The line was read to its end.
     End,
-    /// This is one positional more than the limit.
+    // This is one positional more than the limit.
     Positional(OsString),
-    /// The option that was read last asks for this.
+    // The option that was read last asks for this.
     Asked(Asked<'a>),
-    /// An option has a mistake.
+    // An option has a mistake.
     Mistake(Mistake<'a>),
 }
 
-/// What was read of a line.
+// What was read of a line.
 #[derive(Drop)]
-pub struct Read<F, V, P, M, S> {
-    /// What the line means, by keys; if an option has a mistake, then before it. Each positional
-    /// has the key of the first declared one.
-    pub parsed: Vec<Parsed<F, V, P, M, S>>,
-    /// The indices of the required options that were read.
-    pub seen: Vec<usize>,
-    /// The number of positionals.
-    pub count: usize,
+pub(crate) struct Read<F, V, P, M, S> {
+    // What the line means, by keys; if an option has a mistake, then before it. Each positional has
+    // the key of the first declared one.
+    pub(crate) parsed: Vec<Parsed<F, V, P, M, S>>,
+    // The indices of the required options that were read.
+    pub(crate) seen: Vec<usize>,
+    // The number of positionals.
+    pub(crate) count: usize,
 }
 
-/// Returns a [`Read`] of nothing, for [`read_keys`]. Its list has room for `room` things.
-///
-/// # Errors
-///
-/// Returns `AllocError` if an allocation fails.
+// Nothing, for `read_keys`. The list has room for `room` things.
 #[inline(always)]
-pub fn nothing_read<F, V, P, M, S>(
+pub(crate) fn nothing_read<F, V, P, M, S>(
     alloc: Global,
     room: usize,
 ) -> Result<Read<F, V, P, M, S>, AllocError>
@@ -279,8 +274,8 @@ pub(crate) fn read_next<F, V, P, M, S>(
     }
 }
 
-/// The most things for which a list gets room before a line is read.
-pub const FIRST_ROOM: usize = 16;
+// The most things for which a list gets room before a line is read.
+pub(crate) const FIRST_ROOM: usize = 16;
 
 // ---- the end of a line
 
@@ -310,8 +305,8 @@ fn first_unseen<'a, F, V, M, S>(
     None
 }
 
-/// Returns the names of the first required option of a declaration whose index is not among `seen`.
-pub fn missing_option<'a, F, V, P, M, S>(
+// The names of the first required option of a declaration whose index is not among `seen`.
+fn missing_option<'a, F, V, P, M, S>(
     options: &Options<'a, F, V, P, M, S>,
     seen: &[usize],
 ) -> Option<Names<'a>>
@@ -326,7 +321,7 @@ pub fn missing_option<'a, F, V, P, M, S>(
 }
 
 // Adds the index of an option that was read to `seen`, if the option is required.
-pub(crate) fn note(required: bool, index: usize, seen: &mut Vec<usize>) -> Result<(), AllocError>
+fn note(required: bool, index: usize, seen: &mut Vec<usize>) -> Result<(), AllocError>
     ensures { OnOk result (seen.new.items ≡ noted required index seen.old.items) }
 {
     if required {
@@ -409,21 +404,13 @@ fn ask<'a, F, V, P, M, S>(
     }
 }
 
-/// Reads a line by keys, up to one positional more than `limit`, and puts what is read into `read`.
-///
-/// It is for libraries that read a part of a line. A program calls [`Options::read`]. `parser` is
-/// one that [`Options::parser_of`] returned, of which nothing was read, and `read` is a result of
-/// [`nothing_read`]. `limit` is at most the number of positionals that the declaration allows;
-/// `None` is no limit.
-///
-/// # Errors
-///
-/// Returns `AllocError` if an allocation fails.
+// Reads a line by keys, up to one positional more than `limit`, and puts what is read into `read`.
+//
 // The caller owns `read`, so that this function has little to drop on each way out, and its proof
-// stays cheap. It, `refuse` and `line_of` are always inlined for speed: a call would hand over what
-// was read, which would then stay in memory and not in registers while the line is read.
+// stays cheap. It, `refused_for` and `line_of` are always inlined for speed: a call would hand over
+// what was read, which would then stay in memory and not in registers while the line is read.
 #[inline(always)]
-pub fn read_keys<'a, F: Copy, V: Copy, P: Copy, M: Copy, S: Copy>(
+pub(crate) fn read_keys<'a, F: Copy, V: Copy, P: Copy, M: Copy, S: Copy>(
     alloc: Global,
     parser: &mut Parser,
     options: &Options<'a, F, V, P, M, S>,
@@ -476,29 +463,30 @@ pub fn read_keys<'a, F: Copy, V: Copy, P: Copy, M: Copy, S: Copy>(
     }
 }
 
-// Refuses a line for this mistake, before which it means this.
+// The refusal of a line for this mistake, before which it means this.
 #[inline(always)]
-fn refuse<'a, F, V, P: Copy, M, S>(
+pub(crate) fn refused_for<'a, F, V, P: Copy, M, S>(
     options: &Options<'a, F, V, P, M, S>,
     mut before: Vec<Parsed<F, V, P, M, S>>,
     mistake: Mistake<'a>,
-) -> Line<'a, F, V, P, M, S>
-    ensures { (words : List (List ℕ)) → HasStopped options.now words before.items mistake.entry
-        → IsLineRead options.now words result }
+) -> Refused<'a, F, V, P, M, S>
+    ensures { (words : List (List ℕ))
+        (stopped : HasStopped options.now words before.items mistake.entry)
+        → (refused : IsRefused options.now words result) × (refused.why ≡ stopped.why) }
 {
     give_keys(options.positionals(), &mut before);
-    Line::Refused(Refused {
+    Refused {
         program: options.program(),
         help: options.help_names(),
         before,
         mistake,
-    })
+    }
 }
 
 // The result for a line of which this was read. It is separate from `read_line`, which drops the
 // parser, so that both proofs stay cheap.
 #[inline(always)]
-fn line_of<'a, F: Drop, V: Drop, P: Copy, M: Drop, S: Drop>(
+pub(crate) fn line_of<'a, F: Drop, V: Drop, P: Copy, M: Drop, S: Drop>(
     options: &Options<'a, F, V, P, M, S>,
     read: Read<F, V, P, M, S>,
     ended: Ended<'a>,
@@ -515,15 +503,18 @@ fn line_of<'a, F: Drop, V: Drop, P: Copy, M: Drop, S: Drop>(
     } = read;
     match ended {
         Ended::End => match end_mistake(options, &parsed, count, &seen)? {
-            Some(mistake) => Ok(refuse(options, parsed, mistake)),
+            Some(mistake) => Ok(Line::Refused(refused_for(options, parsed, mistake))),
             None => {
                 give_keys(options.positionals(), &mut parsed);
                 Ok(Line::Parsed(parsed))
             }
         },
-        Ended::Positional(word) => Ok(refuse(options, parsed, Mistake::UnexpectedArgument(word))),
+        Ended::Positional(word) => {
+            let mistake = Mistake::UnexpectedArgument(word);
+            Ok(Line::Refused(refused_for(options, parsed, mistake)))
+        }
         Ended::Asked(asked) => Ok(Line::Asked(asked)),
-        Ended::Mistake(mistake) => Ok(refuse(options, parsed, mistake)),
+        Ended::Mistake(mistake) => Ok(Line::Refused(refused_for(options, parsed, mistake))),
     }
 }
 
@@ -548,9 +539,9 @@ impl<'a, F, V, P, M, S> Options<'a, F, V, P, M, S> {
     ghost use Rattle.lexopt_declaration.specs.Lookups.{help_names};
     ghost use Rattle.lexopt_options.specs.Declarations.{declaration_of, options_of};
 
-    /// Returns a parser of these words, none of which has been read, with the `short_equals` of the
-    /// declaration. It is for libraries; a program calls [`Options::read`].
-    pub fn parser_of(&self, words: Vec<OsString>) -> Parser
+    // A parser of these words, none of which has been read, with the `short_equals` of the
+    // declaration.
+    pub(crate) fn parser_of(&self, words: Vec<OsString>) -> Parser
         ensures { result ≡ start (declaration_of self.now).short_equals words.items }
     {
         let mut parser = Parser::from_vec(words);

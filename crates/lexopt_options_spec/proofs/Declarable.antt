@@ -9,12 +9,12 @@ use lib.Dec.{ltb}
 use lib.Utf8.{encode}
 use Rattle.lexopt_spec.specs.Pieces.{replacement, lossy_characters}
 use Rattle.lexopt_spec.specs.UnreadLine.{equals}
-use Rattle.lexopt_line_spec.specs.Table.{long}
+use Rattle.lexopt_line_spec.specs.Table.{Name, short, long}
 use Rattle.lexopt_line_spec.proofs.Names.{encoded}
-use Rattle.lexopt_options_spec.specs.Completion.{AreText}
-use Rattle.lexopt_options_spec.specs.Declaration.{Declared, Reason, empty_name, equals_in_name, replacement_in_name, blank_or_control_in_name, same_name, or_else, has, has_name, is_blank_or_control, is_empty, shares_name, short_fault, long_fault, placeholder_fault, list_fault, fault, faults, is_sound, IsFirstFault}
-use Rattle.lexopt_options_spec.specs.Declarable.{has_replacement, name_fault, fault_beside, or_later, fault_from, first_fault}
-use Rattle.lexopt_options_spec.proofs.Tables.{pointwise_refl}
+use Rattle.lexopt_options_spec.specs.Completion.{AreText, IsText}
+use Rattle.lexopt_options_spec.specs.Declaration.{Declared, Reason, empty_name, equals_in_name, replacement_in_name, blank_or_control_in_name, same_name, all_names, or_else, has, has_name, is_blank_or_control, is_empty, is_one_of, name_fault, names_fault, shares_name, placeholder_fault, list_fault, fault, faults, is_sound, IsFirstFault}
+use Rattle.lexopt_options_spec.specs.Declarable.{byte_fault, has_replacement, fault_beside, or_later, fault_from, first_fault}
+use Rattle.lexopt_options_spec.proofs.Tables.{name_refl}
 
 -- ---- U+FFFD by its bytes
 
@@ -82,22 +82,16 @@ same_by_bytes name utf8 = by (has replacement (lossy_characters name)) refl
 
 -- ---- one option
 
--- the name of this option is text
-abbrev HasText : Option (List ℕ) → Type 0
-HasText None = Unit {0}
-HasText (Some name) = IsUtf8 name
-
-same_name_fault : (o : Option (List ℕ)) → HasText o → name_fault o ≡ long_fault o
-same_name_fault None text = refl
-same_name_fault (Some name) text = ap (λ (b : Bool). cond (is_empty name) (Some empty_name) (cond (has equals name) (Some equals_in_name)
+same_one : (name : Name) → IsText name → byte_fault name ≡ name_fault name
+same_one (short c) text = refl
+same_one (long name) text = ap (λ (b : Bool). cond (is_empty name) (Some empty_name) (cond (has equals name) (Some equals_in_name)
     (cond b (Some replacement_in_name) (cond (list_any is_blank_or_control name) (Some blank_or_control_in_name) None)))) (same_by_bytes name text)
 
-first_text : (o : Declared) (os : List Declared) → AreText (o ∷ os) → HasText o.long_name
-first_text o os text = by o.long_name refl
-  where
-    by : (name : Option (List ℕ)) → o.long_name ≡ name → HasText name
-    by None is = tt
-    by (Some name) is = text (long name) (or_left _ _ (subst (λ (x : Option (List ℕ)). has_name (long name) (record o { long_name = x }) ≡ true) (sym is) (pointwise_refl name)))
+same_names : (names : List Name) → ((name : Name) → is_one_of names name ≡ true → IsText name) → names_fault byte_fault names ≡ names_fault name_fault names
+same_names [] text = refl
+same_names (n ∷ ns) text =
+    ap (λ (x : Option Reason). or_else x (names_fault byte_fault ns)) (same_one n (text n (or_left _ _ (name_refl n))))
+    ∙ ap (λ (x : Option Reason). or_else (name_fault n) x) (same_names ns (λ name there. text name (or_right _ _ there)))
 
 later_text : (o : Declared) (os : List Declared) → AreText (o ∷ os) → AreText os
 later_text o os text = λ name there. text name (or_right _ _ there)
@@ -117,12 +111,12 @@ turned false false = refl
 one_more : (others before : List Declared) (o : Declared) → Same others before → Same (o ∷ others) (before ++ o ∷ [])
 one_more others before o same = λ f. ap (λ b. f o || b) (same f) ∙ turned (f o) (list_any f before) ∙ sym (list_any-append f before (o ∷ []))
 
-same_fault : (others before : List Declared) (o : Declared) → HasText o.long_name → Same others before → fault_beside others o ≡ fault before o
+same_fault : (others before : List Declared) (o : Declared) → ((name : Name) → has_name name o ≡ true → IsText name) → Same others before → fault_beside others o ≡ fault before o
 same_fault others before o text same =
-    ap (λ (x : Option Reason). or_else (short_fault o.short_name) (or_else x (or_else (placeholder_fault o.kind o.placeholder) (or_else (list_fault o.words)
-    (cond (list_any (shares_name o) others) (Some same_name) None))))) (same_name_fault o.long_name text)
-    ∙ ap (λ (b : Bool). or_else (short_fault o.short_name) (or_else (long_fault o.long_name) (or_else (placeholder_fault o.kind o.placeholder) (or_else (list_fault o.words)
-    (cond b (Some same_name) None))))) (same (shares_name o))
+    ap (λ (x : Option Reason). or_else x (or_else (placeholder_fault o.kind o.placeholder) (or_else (list_fault o.words)
+    (cond (list_any (shares_name o) others) (Some same_name) None)))) (same_names (all_names o) text)
+    ∙ ap (λ (b : Bool). or_else (names_fault name_fault (all_names o)) (or_else (placeholder_fault o.kind o.placeholder) (or_else (list_fault o.words)
+    (cond b (Some same_name) None)))) (same (shares_name o))
 
 -- ---- the first fault
 
@@ -134,7 +128,7 @@ first_of n (f ∷ fs) = or_later n f (first_of (suc n) fs)
 same_first : (n : ℕ) (others before os : List Declared) → AreText os → Same others before → fault_from n others os ≡ first_of n (faults before os)
 same_first n others before [] text same = refl
 same_first n others before (o ∷ os) text same =
-    ap (λ (f : Option Reason). or_later n f (fault_from (suc n) (o ∷ others) os)) (same_fault others before o (first_text o os text) same)
+    ap (λ (f : Option Reason). or_later n f (fault_from (suc n) (o ∷ others) os)) (same_fault others before o (λ name there. text name (or_left _ _ there)) same)
     ∙ ap (λ (later : Option (ℕ × Reason)). or_later n (fault before o) later)
     (same_first (suc n) (o ∷ others) (before ++ o ∷ []) os (later_text o os text) (one_more others before o same))
 

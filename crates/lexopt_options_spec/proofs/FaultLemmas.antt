@@ -3,7 +3,7 @@ use Rattle.std.proofs.Common.{◌≡◌, ℕ, zero, suc, ◌+◌, ◌<◌, ◌�
 use Rattle.std.specs.List.{list_all, list_any}
 use Rattle.std.proofs.lemmas.List.Folds.{list_all_more}
 use Rattle.std.proofs.lemmas.List.{take_all}
-use Rattle.lexopt_options_spec.specs.Declaration.{Declared, Reason, same_name, or_else, short_fault, long_fault, placeholder_fault, list_fault, shares_name, fault, faults, is_sound}
+use Rattle.lexopt_options_spec.specs.Declaration.{Declared, Reason, same_name, all_names, or_else, name_fault, names_fault, placeholder_fault, list_fault, shares_name, fault, faults, is_sound}
 
 pub faults_length : (before os : List Declared) → length (faults before os) ≡ length os
 faults_length before [] = refl
@@ -26,9 +26,9 @@ sound_all os n all so = sym (ap (list_all is_none) (take_all n (faults [] os) (o
 
 -- ---- one option
 
-pub fault_is : (before : List Declared) (o : Declared) (s l p w q : Option Reason) → s ≡ short_fault o.short_name → l ≡ long_fault o.long_name → p ≡ placeholder_fault o.kind o.placeholder
-    → w ≡ list_fault o.words → q ≡ (if list_any (shares_name o) before then Some same_name else None) → or_else s (or_else l (or_else p (or_else w q))) ≡ fault before o
-fault_is before o s l p w q is js ks ls ms = ap (λ x. or_else x (or_else l (or_else p (or_else w q)))) is ∙ ap (λ x. or_else (short_fault o.short_name) (or_else x (or_else p (or_else w q)))) js
-    ∙ ap (λ x. or_else (short_fault o.short_name) (or_else (long_fault o.long_name) (or_else x (or_else w q)))) ks
-    ∙ ap (λ x. or_else (short_fault o.short_name) (or_else (long_fault o.long_name) (or_else (placeholder_fault o.kind o.placeholder) (or_else x q)))) ls
-    ∙ ap (λ x. or_else (short_fault o.short_name) (or_else (long_fault o.long_name) (or_else (placeholder_fault o.kind o.placeholder) (or_else (list_fault o.words) x)))) ms
+pub fault_is : (before : List Declared) (o : Declared) (n p w q : Option Reason) → n ≡ names_fault name_fault (all_names o) → p ≡ placeholder_fault o.kind o.placeholder
+    → w ≡ list_fault o.words → q ≡ (if list_any (shares_name o) before then Some same_name else None) → or_else n (or_else p (or_else w q)) ≡ fault before o
+fault_is before o n p w q is js ks ls = ap (λ x. or_else x (or_else p (or_else w q))) is
+    ∙ ap (λ x. or_else (names_fault name_fault (all_names o)) (or_else x (or_else w q))) js
+    ∙ ap (λ x. or_else (names_fault name_fault (all_names o)) (or_else (placeholder_fault o.kind o.placeholder) (or_else x q))) ks
+    ∙ ap (λ x. or_else (names_fault name_fault (all_names o)) (or_else (placeholder_fault o.kind o.placeholder) (or_else (list_fault o.words) x))) ls

@@ -11,39 +11,33 @@ use Rattle.lexopt_spec.specs.UnreadLine.{dash, equals, BeginsWith, IsPlain}
 use Rattle.lexopt_line_spec.specs.Table.{short, long, Name, Item, many, Kind, flag, one, optional, several, Table, kind}
 use Rattle.lexopt_line_spec.specs.Spelling.{After, nothing, attached, joined, no_value, joined_value, next_word, no_optional, attached_optional, joined_optional, several_words, Completes, last_option, IsAfterLast, nothing_more, a_value, IsLong, name_alone, name_and_value, cluster, long_option, no_words, group, Spells}
 use Rattle.lexopt_line_spec.proofs.SpellerTests.{dash_first, no_equals}
-use Rattle.lexopt_options_spec.specs.Declaration.{Declared, is_long, is_short, table, Reason, is_blank_or_control, blank_or_control_in_name, dash_name, empty_name, equals_in_name, replacement_in_name, bad_placeholder, has, is_placeholder, short_fault, long_fault, placeholder_fault, or_else, fault, faults, is_sound}
+use Rattle.lexopt_options_spec.specs.Declaration.{Declared, all_names, has_name, table, Reason, is_blank_or_control, blank_or_control_in_name, dash_name, empty_name, equals_in_name, replacement_in_name, bad_placeholder, has, is_placeholder, short_fault, long_fault, name_fault, names_fault, placeholder_fault, fault, faults, is_sound}
 use Rattle.lexopt_options_spec.specs.Help.{LabelForm, short_flag, short_one, short_optional, short_optional_value, short_several, long_flag, long_one, long_optional, long_optional_value, long_several, short_word, HasTextNames}
-use Rattle.lexopt_options_spec.proofs.Tables.{IsIn, contains_in, kind_of_name, pointwise_refl}
+use Rattle.lexopt_options_spec.proofs.Tables.{IsIn, contains_in, kind_of_name, long_named, short_named}
+use Rattle.lexopt_options_spec.proofs.Sound.{names_fine, neither, no_fault}
 
 -- ---- what a sound declaration means for one option
 
 -- nothing is wrong with the option
 record IsFine (o : Declared) : Type 0 where
-  short_fine : short_fault o.short_name ≡ None
-  long_fine : long_fault o.long_name ≡ None
+  name_fine : (name : Name) → has_name name o ≡ true → name_fault name ≡ None
   value_fine : placeholder_fault o.kind o.placeholder ≡ None
-
-none_of : (f g h i : Option Reason) → is_none (or_else f (or_else g (or_else h i))) ≡ true → (f ≡ None) × (g ≡ None) × (h ≡ None)
-none_of None None None i e = (refl, refl, refl)
-none_of None None (Some r) i e = absurd (true≢false (sym e))
-none_of None (Some r) h i e = absurd (true≢false (sym e))
-none_of (Some r) g h i e = absurd (true≢false (sym e))
 
 fine_one : (before os : List Declared) (o : Declared) → list_all is_none (faults before os) ≡ true → IsIn o os → IsFine o
 fine_one before [] o sound here = absurd here
 fine_one before (q ∷ os) o sound (inl is) =
     let parts = and_parts (is_none (fault before q)) (list_all is_none (faults (before ++ q ∷ []) os)) sound in
-    let all = none_of (short_fault q.short_name) (long_fault q.long_name) (placeholder_fault q.kind q.placeholder) _ parts.0 in
-    subst (λ (x : Declared). IsFine x) is (record { short_fine = all.0; long_fine = all.1; value_fine = all.2 })
+    let names = neither (names_fault name_fault (all_names q)) _ (no_fault (fault before q) parts.0) in
+    subst (λ (x : Declared). IsFine x) is (record { name_fine = λ name has. names_fine (all_names q) name names.0 has; value_fine = (neither (placeholder_fault q.kind q.placeholder) _ names.1).0 })
 fine_one before (q ∷ os) o sound (inr more) =
     let parts = and_parts (is_none (fault before q)) (list_all is_none (faults (before ++ q ∷ []) os)) sound in
     fine_one (before ++ q ∷ []) os o parts.1 more
 
-no_dash : (c : ℕ) → short_fault (Some c) ≡ None → c ≢ dash
+no_dash : (c : ℕ) → short_fault c ≡ None → c ≢ dash
 no_dash c fine is =
     let e : Some dash_name ≡ None = sym (ap (λ b. cond b (Some dash_name) (cond (c == replacement) (Some replacement_in_name) (cond (is_blank_or_control c) (Some blank_or_control_in_name) None))) (eq-eqb c dash is)) ∙ fine in cc
 
-some_name : (name : List ℕ) → long_fault (Some name) ≡ None → name ≢ []
+some_name : (name : List ℕ) → long_fault name ≡ None → name ≢ []
 some_name [] fine is = let e : Some empty_name ≡ None = fine in cc
 some_name (b ∷ bs) fine is = cc
 
@@ -51,7 +45,7 @@ free : (b : Bool) (rest : Option Reason) → cond b (Some equals_in_name) rest �
 free true rest e = let f : Some equals_in_name ≡ None = e in cc
 free false rest e = refl
 
-no_equals_in : (name : List ℕ) → long_fault (Some name) ≡ None → ¬ Contains name equals
+no_equals_in : (name : List ℕ) → long_fault name ≡ None → ¬ Contains name equals
 no_equals_in [] fine = absurd (some_name [] fine refl)
 no_equals_in (b ∷ bs) fine = no_equals (b ∷ bs) (free (has equals (b ∷ bs)) _ fine)
 
@@ -106,10 +100,10 @@ module _ (options : List Declared) (o : Declared) (e : Bool) (sound : is_sound o
   fine = fine_one [] options o sound (contains_in options o there)
 
   short_kind : (c : ℕ) (k : Kind) → o.short_name ≡ Some c → o.kind ≡ k → kind (table options) (short c) ≡ k
-  short_kind c k named is = kind_of_name options o sound there (short c) (ap (is_short c) named ∙ eq-eqb c c refl) ∙ is
+  short_kind c k named is = kind_of_name options o sound there (short c) (short_named o c named) ∙ is
 
   long_kind : (name : List ℕ) (k : Kind) → o.long_name ≡ Some name → o.kind ≡ k → kind (table options) (long name) ≡ k
-  long_kind name k named is = kind_of_name options o sound there (long name) (ap (is_long name) named ∙ pointwise_refl name) ∙ is
+  long_kind name k named is = kind_of_name options o sound there (long name) (long_named o name named) ∙ is
 
   value : (k : Kind) → o.kind ≡ k → k ≢ flag → IsValue o.placeholder
   value k is some = value_of o.kind o.placeholder fine.value_fine (λ none. some (sym is ∙ none))
@@ -118,18 +112,18 @@ module _ (options : List Declared) (o : Declared) (e : Bool) (sound : is_sound o
   short_form : (c : ℕ) (k : Kind) (bytes : List ℕ) (others : List (List ℕ)) (after : After) (item : Item) → o.short_name ≡ Some c → o.kind ≡ k → IsAfterLast e bytes after
       → Completes k (short c) after others item [] → Spells (table options) e (short_word c bytes ∷ others) (item ∷ [])
   short_form c k bytes others after item named is behind done =
-      short_parsed (table options) e c bytes others after item (texts.short_scalar c named) (no_dash c (sym (ap short_fault named) ∙ fine.short_fine)) behind
+      short_parsed (table options) e c bytes others after item (texts.short_scalar c named) (no_dash c (fine.name_fine (short c) (short_named o c named))) behind
       (subst (λ (x : Kind). Completes x (short c) after others item []) (sym (short_kind c k named is)) done)
 
   -- a long name, and what comes after it
   long_form : (name : List ℕ) (k : Kind) (text : List ℕ) (others : List (List ℕ)) (after : After) (item : Item) → o.long_name ≡ Some name → o.kind ≡ k → IsLong text name after
       → Completes k (long name) after others item [] → Spells (table options) e ((dash ∷ dash ∷ text) ∷ others) (item ∷ [])
   long_form name k text others after item named is behind done =
-      long_parsed (table options) e name text others after item (texts.long_text name named) (no_equals_in name (sym (ap long_fault named) ∙ fine.long_fine)) behind
+      long_parsed (table options) e name text others after item (texts.long_text name named) (no_equals_in name (fine.name_fine (long name) (long_named o name named))) behind
       (subst (λ (x : Kind). Completes x (long name) after others item []) (sym (long_kind name k named is)) done)
 
   alone : (name : List ℕ) → o.long_name ≡ Some name → IsLong name name nothing
-  alone name named = name_alone (some_name name (sym (ap long_fault named) ∙ fine.long_fine)) refl refl
+  alone name named = name_alone (some_name name (fine.name_fine (long name) (long_named o name named))) refl refl
 
   attached_here : (k : Kind) → o.kind ≡ k → k ≢ flag → IsAfterLast e o.placeholder (attached o.placeholder)
   attached_here k is some = let v = value k is some in a_value v.some (λ mark. v.no_mark mark.1) refl

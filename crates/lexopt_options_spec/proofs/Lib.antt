@@ -8,9 +8,8 @@ pub mod Fronts
 pub mod Cuts
 pub mod Growing
 pub mod ReadItems
-pub mod OneLeading
-pub mod LeadingStops
-pub mod LeadingOptions
+pub mod Rests
+pub mod OneRest
 pub mod Distance
 pub mod Nearest
 pub mod OpenLines
@@ -26,4 +25,3 @@ pub mod Shares
 pub mod Roles
 pub mod States
 pub mod Reached
-pub mod FirstWords

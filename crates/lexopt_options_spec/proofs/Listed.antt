@@ -7,7 +7,7 @@ use Rattle.std.proofs.lemmas.List.Quantifiers.{position-Some}
 use Rattle.std.proofs.lemmas.Option.{slice_get_cases}
 use Rattle.lexopt_spec.specs.UnreadLine.{dash, equals, BeginsWith}
 use Rattle.lexopt_line_spec.specs.Table.{Name}
-use Rattle.lexopt_options_spec.specs.Declaration.{Declared, Reason, Words, accepts, files, directories, text, listed, bad_list, fault, faults, has_name, index_of, is_blank_or_control, is_listable, is_placeholder, is_sound, list_fault, long_fault, placeholder_fault, short_fault}
+use Rattle.lexopt_options_spec.specs.Declaration.{Declared, Reason, Words, accepts, files, directories, text, listed, bad_list, fault, faults, has_name, index_of, is_blank_or_control, is_listable, is_placeholder, is_sound, list_fault, all_names, name_fault, names_fault, placeholder_fault}
 use Rattle.lexopt_options_spec.specs.Legal.{Parsed, option, several, accepts_at, are_accepted, refused_value}
 use Rattle.lexopt_options_spec.proofs.Sound.{neither, no_fault}
 use Rattle.lexopt_options_spec.proofs.Tables.{pointwise_refl}
@@ -57,7 +57,7 @@ list_after before [] i o sound at = absurd (let e : None ≡ Some o = at in cc)
 list_after before (p ∷ os) zero o sound at =
     let parts = and_parts (is_none (fault before p)) (list_all is_none (faults (before ++ p ∷ []) os)) sound in
     let none = no_fault (fault before p) parts.0 in
-    let later = (neither (long_fault p.long_name) _ (neither (short_fault p.short_name) _ none).1).1 in
+    let later = (neither (names_fault name_fault (all_names p)) _ none).1 in
     let last = (neither (placeholder_fault p.kind p.placeholder) _ later).1 in
     let same : p ≡ o = cc in
     subst (λ (q : Declared). list_fault q.words ≡ None) same (neither (list_fault p.words) _ last).0

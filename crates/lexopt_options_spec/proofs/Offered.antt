@@ -1,18 +1,18 @@
 -- Which spellings there are.
-use Rattle.std.proofs.Common.{◌≡◌, ◌<◌, ℕ, zero, suc, Bool, not, true, false, ◌||◌, ◌⊎◌, ◌+◌, List, [], ◌∷◌, ◌++◌, map, filter, length, nat_eq, Option, Some, None, if◌then◌else◌, refl, sym, ap, subst, ◌∙◌, arith, inl, inr, ⊎_elim}
-use Rattle.std.specs.List.{Contains, list_any, starts_with}
+use Rattle.std.proofs.Common.{◌≡◌, ◌<◌, ℕ, zero, suc, Bool, not, true, false, ◌||◌, ◌⊎◌, ◌+◌, List, [], ◌∷◌, map, filter, length, nat_eq, Some, None, if◌then◌else◌, refl, sym, ap, subst, ◌∙◌, arith, inl, inr, ⊎_elim}
+use Rattle.std.specs.List.{Contains, flat_map, list_any, starts_with}
 use Rattle.std.specs.List.{position_or_len}
-use Rattle.std.specs.Option.{option_to_list}
 use Rattle.std.specs.Str.{IsUtf8}
-use Rattle.std.specs.Cmp.Lexicographic.{bytes_decides, same_text}
-use Rattle.std.proofs.lemmas.Bool.{false≢true, eqb-true, eq-eqb, lt-ltb, or_right}
+use Rattle.std.proofs.lemmas.Bool.{false≢true, lt-ltb, or_left, or_right}
+use Rattle.std.proofs.lemmas.List.Folds.{list_any-append}
 use Rattle.std.proofs.lemmas.List.Elements.{Contains-append_left, Contains-append_right, Contains-append_cases}
-use Rattle.lexopt_line_spec.specs.Table.{Name, short, long}
-use Rattle.lexopt_options_spec.specs.Declaration.{Declaration, Declared, has_name, is_short, is_long, index_of, is_sound}
+use Rattle.lexopt_line_spec.specs.Table.{Name}
+use Rattle.lexopt_options_spec.specs.Declaration.{Declaration, Declared, all_names, has_name, index_of, is_name, is_one_of, is_sound, names_of}
 use Rattle.lexopt_options_spec.specs.Legal.{Parsed, are_accepted, positional_words}
-use Rattle.lexopt_options_spec.specs.Completion.{spelling, names_of, spellings, AreText, IsOpen, CanOccur, Completes, is_shown}
+use Rattle.lexopt_options_spec.specs.Completion.{spelling, spellings, AreText, IsOpen, CanOccur, Completes, is_shown}
 use Rattle.lexopt_options_spec.specs.Help.{visible}
 use Rattle.lexopt_options_spec.proofs.Sound.{found, either}
+use Rattle.lexopt_options_spec.proofs.Tables.{name_is, name_refl}
 use Rattle.lexopt_options_spec.proofs.Occurs.{AreNamed, can_occur, its_name}
 use Rattle.lexopt_options_spec.proofs.Taken.{AreFilled}
 
@@ -31,68 +31,41 @@ none s (k, within, is) = omega (arith, within)
 
 -- ---- a name and its spelling
 
--- the names of an option, by its character and its long name
-from_names : Option ℕ → Option (List ℕ) → List Name
-from_names s l = map short (option_to_list s) ++ map long (option_to_list l)
+-- the spellings of these names of the options, in order
+abbrev pub spellings_by : (Declared → List Name) → List Declared → List (List ℕ)
+spellings_by names options = flat_map (λ o. map spelling (names o)) options
 
-one_short : (c : ℕ) (s : Option ℕ) (l : Option (List ℕ)) → is_short c s ≡ true → Contains (map spelling (from_names s l)) (spelling (short c))
-unfolding from_names
-one_short c None l is = absurd (false≢true is)
-one_short c (Some d) l is = here (spelling (short d)) (map spelling (map long (option_to_list l))) (spelling (short c)) (ap (λ (x : ℕ). spelling (short x)) (eqb-true d c is))
+one_has : (names : List Name) (name : Name) → is_one_of names name ≡ true → Contains (map spelling names) (spelling name)
+one_has [] name is = absurd (false≢true is)
+one_has (n ∷ ns) name is = either (is_name name n) (is_one_of ns name) (Contains (map spelling (n ∷ ns)) (spelling name)) is
+    (λ one. here (spelling n) (map spelling ns) (spelling name) (ap (λ x. spelling x) (name_is name n one)))
+    (λ other. there (spelling n) (map spelling ns) (spelling name) (one_has ns name other))
 
-one_long : (name : List ℕ) (s : Option ℕ) (l : Option (List ℕ)) → is_long name l ≡ true → Contains (map spelling (from_names s l)) (spelling (long name))
-unfolding from_names
-one_long name s None is = absurd (false≢true is)
-one_long name None (Some n) is = here (spelling (long n)) [] (spelling (long name)) (ap (λ (x : List ℕ). spelling (long x)) (same_text n name (sym is)))
-one_long name (Some d) (Some n) is =
-    there (spelling (short d)) (spelling (long n) ∷ []) (spelling (long name)) (here (spelling (long n)) [] (spelling (long name)) (ap (λ (x : List ℕ). spelling (long x)) (same_text n name (sym is))))
+pub is_among : (names : Declared → List Name) (name : Name) (os : List Declared) → list_any (λ o. is_one_of (names o) name) os ≡ true → Contains (spellings_by names os) (spelling name)
+is_among names name [] is = absurd (false≢true is)
+is_among names name (o ∷ os) is = either (is_one_of (names o) name) (list_any (λ p. is_one_of (names p) name) os) (Contains (spellings_by names (o ∷ os)) (spelling name)) is
+    (λ one. Contains-append_left (map spelling (names o)) (spellings_by names os) (spelling name) (one_has (names o) name one))
+    (λ other. Contains-append_right (map spelling (names o)) (spellings_by names os) (spelling name) (is_among names name os other))
 
-one_has : (name : Name) (o : Declared) → has_name name o ≡ true → Contains (map spelling (names_of o)) (spelling name)
-unfolding from_names
-one_has (short c) o is = one_short c o.short_name o.long_name is
-one_has (long name) o is = one_long name o.short_name o.long_name is
-
-pub is_among : (name : Name) (os : List Declared) → list_any (has_name name) os ≡ true → Contains (spellings os) (spelling name)
-is_among name [] is = absurd (false≢true is)
-is_among name (o ∷ os) is = either (has_name name o) (list_any (has_name name) os) (Contains (spellings (o ∷ os)) (spelling name)) is
-    (λ one. Contains-append_left (map spelling (names_of o)) (spellings os) (spelling name) (one_has name o one))
-    (λ other. Contains-append_right (map spelling (names_of o)) (spellings os) (spelling name) (is_among name os other))
-
--- s is the spelling of a name of one of these options
-pub record IsNamed (os : List Declared) (s : List ℕ) : Type 0 where
+-- s is the spelling of one of these names of these options
+pub record IsNamed (names : Declared → List Name) (os : List Declared) (s : List ℕ) : Type 0 where
   pub name : Name
   pub is : s ≡ spelling name
-  pub among : list_any (has_name name) os ≡ true
+  pub among : list_any (λ o. is_one_of (names o) name) os ≡ true
 
-short_named : (o : Declared) (d : ℕ) → o.short_name ≡ Some d → has_name (short d) o ≡ true
-short_named o d is = ap (is_short d) is ∙ eq-eqb d d refl
+one_named : (names : List Name) (s : List ℕ) → Contains (map spelling names) s → (name : Name) × (s ≡ spelling name) × (is_one_of names name ≡ true)
+one_named [] s has = absurd (none s has)
+one_named (n ∷ ns) s has = ⊎_elim
+    (λ one. (n, sym one, or_left _ _ (name_refl n)))
+    (λ other. let found = one_named ns s other in (found.0, found.1, or_right (is_name found.0 n) _ found.2))
+    (cons_cases (spelling n) (map spelling ns) s has)
 
-long_named : (o : Declared) (n : List ℕ) → o.long_name ≡ Some n → has_name (long n) o ≡ true
-long_named o n is = ap (is_long n) is ∙ (bytes_decides n n).1 refl
-
-from_one : (o : Declared) (s : Option ℕ) (l : Option (List ℕ)) → o.short_name ≡ s → o.long_name ≡ l → (x : List ℕ) → Contains (map spelling (from_names s l)) x
-    → (name : Name) × (x ≡ spelling name) × (has_name name o ≡ true)
-unfolding from_names
-from_one o None None is js x has = absurd (none x has)
-from_one o None (Some n) is js x has = ⊎_elim
-    (λ e. (long n, sym e, long_named o n js)) (λ more. absurd (none x more)) (cons_cases (spelling (long n)) [] x has)
-from_one o (Some d) None is js x has = ⊎_elim
-    (λ e. (short d, sym e, short_named o d is)) (λ more. absurd (none x more)) (cons_cases (spelling (short d)) [] x has)
-from_one o (Some d) (Some n) is js x has = ⊎_elim
-    (λ e. (short d, sym e, short_named o d is))
-    (λ (more : Contains (spelling (long n) ∷ []) x). ⊎_elim (λ e. (long n, sym e, long_named o n js)) (λ rest. absurd (none x rest)) (cons_cases (spelling (long n)) [] x more))
-    (cons_cases (spelling (short d)) (spelling (long n) ∷ []) x has)
-
-one_named : (o : Declared) (s : List ℕ) → Contains (map spelling (names_of o)) s → (name : Name) × (s ≡ spelling name) × (has_name name o ≡ true)
-unfolding from_names
-one_named o s has = from_one o o.short_name o.long_name refl refl s has
-
-pub named : (os : List Declared) (s : List ℕ) → Contains (spellings os) s → IsNamed os s
-named [] s has = absurd (none s has)
-named (o ∷ os) s has = ⊎_elim
-    (λ one. let n = one_named o s one in record { name = n.0; is = n.1; among = ap (λ b. b || list_any (has_name n.0) os) n.2 })
-    (λ other. let n = named os s other in record { name = n.name; is = n.is; among = or_right (has_name n.name o) _ n.among })
-    (Contains-append_cases (map spelling (names_of o)) (spellings os) s has)
+pub named : (names : Declared → List Name) (os : List Declared) (s : List ℕ) → Contains (spellings_by names os) s → IsNamed names os s
+named names [] s has = absurd (none s has)
+named names (o ∷ os) s has = ⊎_elim
+    (λ one. let n = one_named (names o) s one in record { name = n.0; is = n.1; among = or_left _ _ n.2 })
+    (λ other. let n = named names os s other in record { name = n.name; is = n.is; among = or_right (is_one_of (names o) n.name) _ n.among })
+    (Contains-append_cases (map spelling (names o)) (spellings_by names os) s has)
 
 -- ---- spellings that begin with something
 
@@ -120,7 +93,7 @@ keeps p (x ∷ xs) s has is = go (p x) refl (λ more. keeps p xs s more is)
 
 -- ---- what can come
 
-any_within : (p : Declared → Bool) (os : List Declared) → list_any p os ≡ true → position_or_len p os < length os
+pub any_within : {X : Type 0} (p : X → Bool) (os : List X) → list_any p os ≡ true → position_or_len p os < length os
 any_within p [] is = absurd (false≢true is)
 any_within p (o ∷ os) is = go (p o) is (any_within p os)
   where
@@ -132,33 +105,39 @@ an_index : (name : Name) (os : List Declared) → list_any (has_name name) os �
 an_index name os is = (position_or_len (has_name name) os, ap (λ (b : Bool). if b then Some (position_or_len (has_name name) os) else None) (lt-ltb _ _ (any_within (has_name name) os is)))
 
 pub offered_occurs : (d : Declaration) (words : List (List ℕ)) (l : List Parsed) (s : List ℕ) → is_sound d.options ≡ true → AreText d.options → AreNamed d.options → IsOpen d words l
-    → are_accepted d.options l ≡ true → AreFilled d.positionals (positional_words l) → Contains (spellings d.options) s
+    → are_accepted d.options l ≡ true → AreFilled d.positionals (positional_words l) → Contains (spellings_by all_names d.options) s
     → CanOccur d words s
 offered_occurs d words l s sound text names is accepted filled has =
-    let n = named d.options s has in
+    let n = named all_names d.options s has in
     let i = an_index n.name d.options n.among in
     subst (CanOccur d words) (sym n.is) (can_occur d words l n.name i.0 sound text names is accepted filled i.1 (text n.name n.among))
 
-pub occurs_offered : (d : Declaration) (words : List (List ℕ)) (s : List ℕ) → CanOccur d words s → Contains (spellings d.options) s
+pub occurs_offered : (d : Declaration) (words : List (List ℕ)) (s : List ℕ) → CanOccur d words s → Contains (spellings_by all_names d.options) s
 occurs_offered d words s possible =
-    subst (Contains (spellings d.options)) (sym possible.spelled) (is_among possible.name d.options (found (has_name possible.name) d.options possible.index possible.declared))
+    subst (Contains (spellings_by all_names d.options)) (sym possible.spelled) (is_among all_names possible.name d.options (found (has_name possible.name) d.options possible.index possible.declared))
 
 -- ---- what is offered
 
-any_visible : (p : Declared → Bool) (os : List Declared) → list_any p (visible os) ≡ true → list_any p os ≡ true
-any_visible p [] is = is
-any_visible p (o ∷ os) is = go o.hidden is (λ more. or_right (p o) _ (any_visible p os more))
+-- the own name of an option that is shown is the name of an option
+any_visible : (name : Name) (os : List Declared) → is_shown os name ≡ true → list_any (has_name name) os ≡ true
+any_visible name [] is = is
+any_visible name (o ∷ os) is = go o.hidden is (λ more. or_right (has_name name o) _ (any_visible name os more))
   where
-    go : (h : Bool) → list_any p (if not h then o ∷ visible os else visible os) ≡ true → (list_any p (visible os) ≡ true → (p o || list_any p os) ≡ true) → (p o || list_any p os) ≡ true
+    own : Declared → Bool
+    own p = is_one_of (names_of p) name
+
+    go : (h : Bool) → list_any own (if not h then o ∷ visible os else visible os) ≡ true → (list_any own (visible os) ≡ true → (has_name name o || list_any (has_name name) os) ≡ true)
+        → (has_name name o || list_any (has_name name) os) ≡ true
     go true is later = later is
-    go false is later = either (p o) (list_any p (visible os)) ((p o || list_any p os) ≡ true) is (λ one. ap (λ b. b || list_any p os) one) later
+    go false is later = either (own o) (list_any own (visible os)) ((has_name name o || list_any (has_name name) os) ≡ true) is
+        (λ one. or_left _ _ (list_any-append (is_name name) (names_of o) o.aliases ∙ or_left _ _ one)) later
 
 pub shown_completes : (d : Declaration) (words : List (List ℕ)) (l : List Parsed) (typed s : List ℕ) → is_sound d.options ≡ true → AreText d.options → AreNamed d.options → IsOpen d words l
     → are_accepted d.options l ≡ true → AreFilled d.positionals (positional_words l) → IsUtf8 typed → starts_with nat_eq s typed ≡ true → Contains (spellings (visible d.options)) s
     → Completes d words typed s
 shown_completes d words l typed s sound text names is accepted filled utf8 begins has =
-    let n = named (visible d.options) s has in
-    let declared = any_visible (has_name n.name) d.options n.among in
+    let n = named names_of (visible d.options) s has in
+    let declared = any_visible n.name d.options n.among in
     let i = an_index n.name d.options declared in
     let t = text n.name declared in
     subst (Completes d words typed) (sym n.is) (record {
@@ -170,4 +149,4 @@ shown_completes d words l typed s sound text names is accepted filled utf8 begin
 
 pub completes_shown : (d : Declaration) (words : List (List ℕ)) (typed s : List ℕ) → Completes d words typed s → Contains (spellings (visible d.options)) s
 completes_shown d words typed s completes =
-    subst (Contains (spellings (visible d.options))) (sym completes.possible.spelled) (is_among completes.possible.name (visible d.options) completes.shown)
+    subst (Contains (spellings (visible d.options))) (sym completes.possible.spelled) (is_among names_of completes.possible.name (visible d.options) completes.shown)

@@ -7,7 +7,7 @@ use Rattle.std.proofs.Math.Seq.{take-append_seam}
 use Rattle.std.specs.Prelude.{Contains}
 use Rattle.std.specs.List.{AllZip, concat, flat_map, sum_by}
 use Rattle.lexopt_options_spec.specs.Declaration.{Declared, Declaration, Positional}
-use Rattle.lexopt_options_spec.specs.Help.{with_list, columns, help_column, blanks, Line, line_columns, Fits, AllFit, AreFull, Wraps, below, gap, entry, label, words_of, IsEntry, IsUsage, IsParagraph, IsHelp, usage_words, usage_column, paragraph, described, visible, set_apart, line_feed}
+use Rattle.lexopt_options_spec.specs.Help.{columns, help_column, blanks, Line, line_columns, Fits, AllFit, AreFull, Wraps, below, gap, entry, label, words_of, heading_lines, option_text, options_part, positional_text, IsEntry, IsOption, IsUsage, IsUsageLine, IsParagraph, IsHelp, first_usage, usage_column, paragraph, described, visible, set_apart, line_feed}
 use Rattle.lexopt_options_spec.proofs.Wrapping.{some_wrapping}
 
 abbrev words_in : List Line → List (List ℕ)
@@ -71,13 +71,16 @@ one_wrapping limit (l ∷ ls) (m ∷ ms) same f g h k =
 same_lines : (limit : ℕ) (words : List (List ℕ)) (ls ms : List Line) → Wraps limit words ls → Wraps limit words ms → ls ≡ ms
 same_lines limit words ls ms a b = one_wrapping limit ls ms (a.in_order ∙ sym b.in_order) a.fit b.fit a.full b.full
 
-pub one_usage : (d : Declaration) (width : ℕ) (s t : List ℕ) → IsUsage width d s → IsUsage width d t → s ≡ t
-one_usage d width s t a b =
-    a.written ∙ ap (λ (l : List Line). codes "Usage: " ++ below usage_column l ++ line_feed ∷ []) (same_lines (width - usage_column) (usage_words d) a.lines b.lines a.wrapped b.wrapped) ∙ sym b.written
+one_usage_line : (width : ℕ) (words : List (List ℕ)) (s t : List ℕ) → IsUsageLine width words s → IsUsageLine width words t → s ≡ t
+one_usage_line width words s t a b =
+    a.written ∙ ap (λ (l : List Line). below usage_column l ++ line_feed ∷ []) (same_lines (width - usage_column) words a.lines b.lines a.wrapped b.wrapped) ∙ sym b.written
 
 one_entry : (width : ℕ) (shown help s t : List ℕ) → IsEntry width shown help s → IsEntry width shown help t → s ≡ t
 one_entry width shown help s t a b =
     a.written ∙ ap (entry (help_column width) shown) (same_lines (width - help_column width) (words_of help) a.lines b.lines a.wrapped b.wrapped) ∙ sym b.written
+
+one_option : (width : ℕ) (o : Declared) (s t : List ℕ) → IsOption width o s → IsOption width o t → s ≡ t
+one_option width o s t a b = a.written ∙ ap (λ l. heading_lines o.heading ++ l) (one_entry width (label o) (option_text o) a.own b.own a.is_entry b.is_entry) ∙ sym b.written
 
 one_paragraph : (width : ℕ) (content s t : List ℕ) → IsParagraph width content s → IsParagraph width content t → s ≡ t
 one_paragraph width content s t a b = a.written ∙ ap paragraph (same_lines width (words_of content) a.lines b.lines a.wrapped b.wrapped) ∙ sym b.written
@@ -91,26 +94,37 @@ same_texts Is one (x ∷ xs) [] ts a b = absurd a
 same_texts Is one (x ∷ xs) (s ∷ ss) [] a b = absurd b
 same_texts Is one (x ∷ xs) (s ∷ ss) (t ∷ ts) a b = ap (λ (e : List ℕ). e ∷ ss) (one x s t a.0 b.0) ∙ ap (λ (es : List (List ℕ)). t ∷ es) (same_texts Is one xs ss ts a.1 b.1)
 
+pub one_usage : (d : Declaration) (width : ℕ) (s t : List ℕ) → IsUsage width d s → IsUsage width d t → s ≡ t
+one_usage d width s t a b =
+    let first = one_usage_line width (first_usage d d.usage) a.first b.first a.first_line b.first_line in
+    let others = same_texts (λ own. IsUsageLine width (d.program ∷ words_of own)) (λ own. one_usage_line width (d.program ∷ words_of own)) (drop 1 d.usage) a.others b.others a.other_lines b.other_lines in
+    cc (a.written, b.written)
+
 pub one_help : (d : Declaration) (width : ℕ) (s t : List ℕ) → IsHelp d width s → IsHelp d width t → s ≡ t
 one_help d width s t a b =
     let usage = one_usage d width a.usage b.usage a.usage_first b.usage_first in
     let about = one_paragraph width d.about a.about b.about a.about_next b.about_next in
-    let positionals = same_texts (λ (p : Positional). IsEntry width p.placeholder (with_list p.help p.words)) (λ p. one_entry width p.placeholder (with_list p.help p.words)) (described d.positionals) a.positionals b.positionals a.each_positional b.each_positional in
-    let options = same_texts (λ (o : Declared). IsEntry width (label o) (with_list o.help o.words)) (λ o. one_entry width (label o) (with_list o.help o.words)) (visible d.options) a.options b.options a.each_option b.each_option in
+    let positionals = same_texts (λ (p : Positional). IsEntry width p.placeholder (positional_text p)) (λ p. one_entry width p.placeholder (positional_text p)) (described d.positionals) a.positionals b.positionals a.each_positional b.each_positional in
+    let options = same_texts (IsOption width) (one_option width) (visible d.options) a.options b.options a.each_option b.each_option in
     let epilogue = same_texts (IsParagraph width) (one_paragraph width) d.epilogue a.epilogue b.epilogue a.each_paragraph b.each_paragraph in
     cc (a.written, b.written)
 
 -- ---- a declaration has a help
 
-pub some_usage : (d : Declaration) (width : ℕ) → (text : List ℕ) × IsUsage width d text
-some_usage d width =
-    let w = some_wrapping (width - usage_column) (usage_words d) in
-    (codes "Usage: " ++ below usage_column w.0 ++ line_feed ∷ [], record { lines = w.0; wrapped = w.1; written = refl })
+some_usage_line : (width : ℕ) (words : List (List ℕ)) → (text : List ℕ) × IsUsageLine width words text
+some_usage_line width words =
+    let w = some_wrapping (width - usage_column) words in
+    (below usage_column w.0 ++ line_feed ∷ [], record { lines = w.0; wrapped = w.1; written = refl })
 
 some_entry : (width : ℕ) (shown help : List ℕ) → (text : List ℕ) × IsEntry width shown help text
 some_entry width shown help =
     let w = some_wrapping (width - help_column width) (words_of help) in
     (entry (help_column width) shown w.0, record { lines = w.0; wrapped = w.1; written = refl })
+
+some_option : (width : ℕ) (o : Declared) → (text : List ℕ) × IsOption width o text
+some_option width o =
+    let e = some_entry width (label o) (option_text o) in
+    (heading_lines o.heading ++ e.0, record { own = e.0; is_entry = e.1; written = refl })
 
 some_paragraph : (width : ℕ) (content : List ℕ) → (text : List ℕ) × IsParagraph width content text
 some_paragraph width content =
@@ -125,14 +139,22 @@ some_texts Is some (x ∷ xs) =
     let ts = some_texts Is some xs in
     (t.0 ∷ ts.0, (t.1, ts.1))
 
+pub some_usage : (d : Declaration) (width : ℕ) → (text : List ℕ) × IsUsage width d text
+some_usage d width =
+    let f = some_usage_line width (first_usage d d.usage) in
+    let os = some_texts (λ own. IsUsageLine width (d.program ∷ words_of own)) (λ own. some_usage_line width (d.program ∷ words_of own)) (drop 1 d.usage) in (
+      codes "Usage: " ++ f.0 ++ flat_map (λ line. codes "  or:  " ++ line) os.0,
+      record { first = f.0; others = os.0; first_line = f.1; other_lines = os.1; written = refl },
+    )
+
 pub some_help : (d : Declaration) (width : ℕ) → (text : List ℕ) × IsHelp d width text
 some_help d width =
     let u = some_usage d width in
     let a = some_paragraph width d.about in
-    let ps = some_texts (λ (p : Positional). IsEntry width p.placeholder (with_list p.help p.words)) (λ p. some_entry width p.placeholder (with_list p.help p.words)) (described d.positionals) in
-    let os = some_texts (λ (o : Declared). IsEntry width (label o) (with_list o.help o.words)) (λ o. some_entry width (label o) (with_list o.help o.words)) (visible d.options) in
+    let ps = some_texts (λ (p : Positional). IsEntry width p.placeholder (positional_text p)) (λ p. some_entry width p.placeholder (positional_text p)) (described d.positionals) in
+    let os = some_texts (IsOption width) (some_option width) (visible d.options) in
     let es = some_texts (IsParagraph width) (some_paragraph width) d.epilogue in (
-      u.0 ++ a.0 ++ set_apart (concat ps.0) ++ set_apart (concat os.0) ++ flat_map set_apart es.0,
+      u.0 ++ a.0 ++ set_apart (concat ps.0) ++ options_part (concat os.0) ++ flat_map set_apart es.0,
       record {
         usage = u.0;
         about = a.0;
@@ -177,8 +199,8 @@ narrow_or_one width column line fits = ⊎_elim
     (λ within. narrow_by width column (line_columns line) (length line) within fits.narrow)
     (cases_lt width column)
 
-pub narrow_usage : (width : ℕ) (d : Declaration) (text : List ℕ) (u : IsUsage width d text) (line : Line) → Contains u.lines line → (usage_column + line_columns line ≤ width) ⊎ (length line ≡ 1)
-narrow_usage width d text u line there = narrow_or_one width usage_column line (fits_at (width - usage_column) u.lines line u.wrapped.fit there)
+pub narrow_usage : (width : ℕ) (words : List (List ℕ)) (text : List ℕ) (u : IsUsageLine width words text) (line : Line) → Contains u.lines line → (usage_column + line_columns line ≤ width) ⊎ (length line ≡ 1)
+narrow_usage width words text u line there = narrow_or_one width usage_column line (fits_at (width - usage_column) u.lines line u.wrapped.fit there)
 
 pub narrow_paragraph : (width : ℕ) (content text : List ℕ) (p : IsParagraph width content text) (line : Line) → Contains p.lines line → (line_columns line ≤ width) ⊎ (length line ≡ 1)
 narrow_paragraph width content text p line there = (fits_at width p.lines line p.wrapped.fit there).narrow

@@ -25,7 +25,7 @@ use Rattle.lexopt_options_spec.specs.Stops.{Mistake, ReadsUpTo, Stops, missing_v
 use Rattle.lexopt_options_spec.proofs.Cuts.{enough}
 use Rattle.lexopt_options_spec.proofs.Fronts.{no_front, nothing_read}
 use Rattle.lexopt_options_spec.proofs.Growing.{longer, Calm, Grows, EndsSo, ended_before, open_there, separator_last, ends_so, adds_word, calm_before, first_taken, lack_more, no_option, not_normal_more, only_end, option_before_separator, option_more, step_more, takes_next}
-use Rattle.lexopt_options_spec.proofs.LeadingOptions.{ends_here, ends_reading, reading_spells}
+use Rattle.lexopt_options_spec.proofs.Rests.{ends_here, ends_reading, reading_spells}
 use Rattle.lexopt_options_spec.proofs.Lists.{joined}
 use Rattle.lexopt_options_spec.proofs.Occurs.{dashes_calm}
 use Rattle.lexopt_options_spec.proofs.OpenLines.{dashes}

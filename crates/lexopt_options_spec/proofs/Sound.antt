@@ -1,8 +1,7 @@
 -- The names of options that can be declared together.
-use Rattle.std.proofs.Common.{◌≡◌, ◌≢◌, ℕ, Bool, true, false, ◌==◌, ◌||◌, List, [], ◌∷◌, ◌++◌, map, position, Option, Some, None, is_none, cond, refl, sym, subst, ◌∙◌}
+use Rattle.std.proofs.Common.{◌≡◌, ◌≢◌, ℕ, Bool, true, false, ◌==◌, ◌||◌, List, [], ◌∷◌, ◌++◌, map, position, Option, Some, None, is_none, cond, refl, sym, ap, ◌∙◌}
 use Rattle.std.specs.List.{Contains, list_any, list_all}
-use Rattle.std.specs.Cmp.Lexicographic.{same_text}
-use Rattle.std.proofs.lemmas.Bool.{and_parts, false≢true, eqb-true, eq-eqb}
+use Rattle.std.proofs.lemmas.Bool.{and_parts, false≢true, eq-eqb}
 use Rattle.std.proofs.lemmas.List.Folds.{list_any_at}
 use Rattle.std.proofs.lemmas.List.Quantifiers.{position-Some}
 use Rattle.lexopt_spec.specs.Pieces.{replacement, lossy_characters}
@@ -10,10 +9,11 @@ use Rattle.lexopt_spec.specs.UnreadLine.{dash, equals}
 use Rattle.lexopt_line_spec.specs.Table as spec
 use Rattle.lexopt_line_spec.specs.Table.{Name, short, long, Item}
 use Rattle.lexopt_line_spec.specs.Spelling.{IsWholeName, HaveWholeNames}
-use Rattle.lexopt_options_spec.specs.Declaration.{Declared, Reason, has, has_name, is_empty, is_short, is_long, index_of, short_fault, long_fault, or_else, fault, faults, is_sound}
+use Rattle.lexopt_options_spec.specs.Declaration.{Declared, Reason, has, all_names, has_name, is_empty, is_name, is_one_of, index_of, name_fault, names_fault, or_else, fault, faults, is_sound}
 use Rattle.std.specs.Option.{option_map}
 use Rattle.lexopt_options_spec.specs.Legal.{Parsed, option, several, parsed_item}
 use Rattle.lexopt_options_spec.proofs.Lists.{first_same}
+use Rattle.lexopt_options_spec.proofs.Tables.{name_is}
 
 -- a name that can be declared
 abbrev pub IsGoodName : Name → Type 0
@@ -39,41 +39,39 @@ not_among : (c : ℕ) (l : List ℕ) → has c l ≡ false → ¬ Contains l c
 not_among c l is among =
     false≢true (sym is ∙ list_any_at (λ b. b == c) l among.0 c among.1 (eq-eqb _ c among.2))
 
-good_short : (c : ℕ) (o : Option ℕ) → is_short c o ≡ true → short_fault o ≡ None → IsGoodName (short c)
-good_short c None is none = absurd (false≢true is)
-good_short c (Some d) is none =
-    let same : d ≡ c = eqb-true d c is in
-    let first = none_and (d == dash) _ _ none in
-    let second = none_and (d == replacement) _ _ first.1 in
-    ((λ e. differ d dash first.0 (same ∙ e)), (λ e. differ d replacement second.0 (same ∙ e)))
-
 some_bytes : (name : List ℕ) → is_empty name ≡ false → name ≢ []
 some_bytes [] is same = false≢true (sym is)
 some_bytes (b ∷ bs) is same = let e : b ∷ bs ≡ [] = same in cc
 
-good_long : (name : List ℕ) (o : Option (List ℕ)) → is_long name o ≡ true → long_fault o ≡ None → IsGoodName (long name)
-good_long name None is none = absurd (false≢true is)
-good_long name (Some n) is none =
-    let same : n ≡ name = same_text n name (sym is) in
-    let first = none_and (is_empty n) _ _ none in
-    let second = none_and (has equals n) _ _ first.1 in
-    let third = none_and (has replacement (lossy_characters n)) _ _ second.1 in
-    subst (λ (m : List ℕ). IsGoodName (long m)) same (some_bytes n first.0, not_among equals n second.0, not_among replacement (lossy_characters n) third.0)
-
-good_name : (before : List Declared) (o : Declared) (name : Name) → fault before o ≡ None → has_name name o ≡ true → IsGoodName name
-good_name before o (short c) none is = good_short c o.short_name is (neither (short_fault o.short_name) _ none).0
-good_name before o (long name) none is = good_long name o.long_name is (neither (long_fault o.long_name) _ (neither (short_fault o.short_name) _ none).1).0
+good_name : (name : Name) → name_fault name ≡ None → IsGoodName name
+good_name (short c) none =
+    let first = none_and (c == dash) _ _ none in
+    let second = none_and (c == replacement) _ _ first.1 in
+    (differ c dash first.0, differ c replacement second.0)
+good_name (long name) none =
+    let first = none_and (is_empty name) _ _ none in
+    let second = none_and (has equals name) _ _ first.1 in
+    let third = none_and (has replacement (lossy_characters name)) _ _ second.1 in
+    (some_bytes name first.0, not_among equals name second.0, not_among replacement (lossy_characters name) third.0)
 
 pub either : (a b : Bool) (P : Type 0) → (a || b) ≡ true → (a ≡ true → P) → (b ≡ true → P) → P
 either true b P is one other = one refl
 either false b P is one other = other is
+
+-- with none of these names anything is wrong
+pub names_fine : (names : List Name) (name : Name) → names_fault name_fault names ≡ None → is_one_of names name ≡ true → name_fault name ≡ None
+names_fine [] name none is = absurd (false≢true is)
+names_fine (n ∷ ns) name none is =
+    let parts = neither (name_fault n) (names_fault name_fault ns) none in
+    either (is_name name n) (is_one_of ns name) (name_fault name ≡ None) is
+    (λ here. ap name_fault (sym (name_is name n here)) ∙ parts.0) (λ later. names_fine ns name parts.1 later)
 
 good_after : (before os : List Declared) (name : Name) → list_all is_none (faults before os) ≡ true → list_any (has_name name) os ≡ true → IsGoodName name
 good_after before [] name sound is = absurd (false≢true is)
 good_after before (o ∷ os) name sound is =
     let parts = and_parts (is_none (fault before o)) _ sound in
     either (has_name name o) (list_any (has_name name) os) (IsGoodName name) is
-    (λ here. good_name before o name (no_fault (fault before o) parts.0) here)
+    (λ here. good_name name (names_fine (all_names o) name (neither (names_fault name_fault (all_names o)) _ (no_fault (fault before o) parts.0)).0 here))
     (λ later. good_after (before ++ o ∷ []) os name parts.1 later)
 
 pub found : (p : Declared → Bool) (os : List Declared) (i : ℕ) → position p os ≡ Some i → list_any p os ≡ true

@@ -1,20 +1,55 @@
 -- In the table of a sound declaration, each option has its own kind.
 use Rattle.std.specs.List.{position_or_len}
 use Rattle.std.proofs.Math.Bool.{and-false, and-true, or-false}
-use Rattle.std.proofs.Common.{position, nat_lt, not, ◌+◌, length, length-append, if◌then◌else◌, ◌≡◌, ◌⊎◌, ℕ, ◌==◌, ◌||◌, ◌&&◌, suc, zero, Bool, true, false, cond, List, [], ◌∷◌, ◌++◌, Option, Some, None, refl, sym, ap, subst, ◌∙◌, arith, inl, inr, true≢false}
-use Rattle.std.proofs.lemmas.Bool.{eq-eqb, eqb-true, lt-ltb, and_parts, or_parts, or_right}
+use Rattle.std.proofs.Common.{append_assoc, get_or, ◌<◌, position, nat_lt, not, ◌+◌, length, length-append, if◌then◌else◌, ◌≡◌, ◌⊎◌, ℕ, ◌==◌, ◌||◌, ◌&&◌, suc, zero, Bool, true, false, cond, List, [], ◌∷◌, ◌++◌, Option, Some, None, refl, sym, ap, subst, ◌∙◌, arith, inl, inr, ⊎_elim, true≢false}
+use Rattle.std.proofs.lemmas.Bool.{eq-eqb, eqb-true, lt-ltb, and_parts, or_cases, or_left, or_parts, or_right}
 use Rattle.std.specs.Prelude.{Contains, is_none}
-use Rattle.std.specs.Option.{option_to_list}
 use Rattle.std.specs.List.{list_all, list_any}
 use Rattle.std.specs.Cmp.Lexicographic.{pointwise, same_text}
 use Rattle.lexopt_line_spec.specs.Table.{Name, short, long, Kind, flag, one, optional, several, holds_in, kind}
-use Rattle.lexopt_options_spec.specs.Declaration.{Declared, has_name, is_short, is_long, if_kind, shorts_of, longs_of, table, Reason, same_name, fault, faults, is_sound, shares_name, shares_short, shares_long, or_else, short_fault, long_fault, placeholder_fault, list_fault}
+use Rattle.lexopt_options_spec.specs.Declaration.{Declared, all_names, has_name, index_of, is_name, is_one_of, if_kind, shorts_in, longs_in, shorts_of, longs_of, table, Reason, same_name, fault, faults, is_sound, shares_name, or_else, name_fault, names_fault, placeholder_fault, list_fault}
 
 -- ---- lists
 
 list_any-append : {X : Type 0} (p : X → Bool) (xs ys : List X) → list_any p (xs ++ ys) ≡ (list_any p xs || list_any p ys)
 list_any-append p [] ys = refl
 list_any-append p (x ∷ xs) ys = elim (p x) as (λ v. (v || list_any p (xs ++ ys)) ≡ ((v || list_any p xs) || list_any p ys)) [ true ↦ refl | false ↦ list_any-append p xs ys ]
+
+-- ---- names
+
+pub pointwise_refl : (xs : List ℕ) → pointwise ◌==◌ xs xs ≡ true
+pointwise_refl [] = refl
+pointwise_refl (x ∷ xs) = ap (λ b. b && pointwise ◌==◌ xs xs) (eq-eqb x x refl) ∙ pointwise_refl xs
+
+pub name_is : (name n : Name) → is_name name n ≡ true → n ≡ name
+name_is (short c) (short d) is = ap (λ x. short x) (eqb-true d c is)
+name_is (long name) (long n) is = ap (λ x. long x) (same_text n name (sym is))
+name_is (short c) (long n) is = absurd (true≢false (sym is))
+name_is (long name) (short d) is = absurd (true≢false (sym is))
+
+pub name_refl : (name : Name) → is_name name name ≡ true
+name_refl (short c) = eq-eqb c c refl
+name_refl (long name) = pointwise_refl name
+
+-- what passes one of these names passes any of them
+any_named : (name : Name) (p : Name → Bool) (names : List Name) → is_one_of names name ≡ true → p name ≡ true → list_any p names ≡ true
+any_named name p [] among is = absurd (true≢false (sym among))
+any_named name p (n ∷ ns) among is = ⊎_elim
+    (λ here. or_left _ _ (subst (λ (x : Name). p x ≡ true) (sym (name_is name n here)) is))
+    (λ later. or_right (p n) _ (any_named name p ns later is))
+    (or_cases (is_name name n) (is_one_of ns name) among)
+
+-- the option has its own names
+
+pub short_named : (o : Declared) (c : ℕ) → o.short_name ≡ Some c → has_name (short c) o ≡ true
+short_named o c is = subst (λ (s : Option ℕ). has_name (short c) (record o { short_name = s }) ≡ true) (sym is) (or_left _ _ (name_refl (short c)))
+
+pub long_named : (o : Declared) (name : List ℕ) → o.long_name ≡ Some name → has_name (long name) o ≡ true
+long_named o name is = subst (λ (l : Option (List ℕ)). has_name (long name) (record o { long_name = l }) ≡ true) (sym is) (beside o.short_name)
+  where
+    beside : (s : Option ℕ) → has_name (long name) (record o { short_name = s; long_name = Some name }) ≡ true
+    beside None = or_left _ _ (name_refl (long name))
+    beside (Some c) = or_left _ _ (name_refl (long name))
 
 -- ---- the lists of the table
 
@@ -32,100 +67,66 @@ is_held k name o = is_kind k o.kind && has_name name o
 abbrev holds : Kind → List Declared → Name → Bool
 holds k options name = holds_in (shorts_of k options) (longs_of k options) name
 
-any_short : (c : ℕ) (k l : Kind) (n : Option ℕ) → list_any (λ d. d == c) (if_kind k l (option_to_list n)) ≡ (is_kind k l && is_short c n)
-any_short c one one None = refl
-any_short c one one (Some d) = or-false (d == c)
-any_short c optional optional None = refl
-any_short c optional optional (Some d) = or-false (d == c)
-any_short c several several None = refl
-any_short c several several (Some d) = or-false (d == c)
-any_short c flag l n = refl
-any_short c one flag n = refl
-any_short c one optional n = refl
-any_short c one several n = refl
-any_short c optional flag n = refl
-any_short c optional one n = refl
-any_short c optional several n = refl
-any_short c several flag n = refl
-any_short c several one n = refl
-any_short c several optional n = refl
+any_kind : {X : Type 0} (p : X → Bool) (k l : Kind) (xs : List X) → list_any p (if_kind k l xs) ≡ (is_kind k l && list_any p xs)
+any_kind p one one xs = refl
+any_kind p optional optional xs = refl
+any_kind p several several xs = refl
+any_kind p flag l xs = refl
+any_kind p one flag xs = refl
+any_kind p one optional xs = refl
+any_kind p one several xs = refl
+any_kind p optional flag xs = refl
+any_kind p optional one xs = refl
+any_kind p optional several xs = refl
+any_kind p several flag xs = refl
+any_kind p several one xs = refl
+any_kind p several optional xs = refl
 
-any_long : (name : List ℕ) (k l : Kind) (n : Option (List ℕ)) → list_any (λ m. pointwise ◌==◌ m name) (if_kind k l (option_to_list n)) ≡ (is_kind k l && is_long name n)
-any_long name one one None = refl
-any_long name one one (Some m) = or-false (pointwise ◌==◌ m name)
-any_long name optional optional None = refl
-any_long name optional optional (Some m) = or-false (pointwise ◌==◌ m name)
-any_long name several several None = refl
-any_long name several several (Some m) = or-false (pointwise ◌==◌ m name)
-any_long name flag l n = refl
-any_long name one flag n = refl
-any_long name one optional n = refl
-any_long name one several n = refl
-any_long name optional flag n = refl
-any_long name optional one n = refl
-any_long name optional several n = refl
-any_long name several flag n = refl
-any_long name several one n = refl
-any_long name several optional n = refl
+any_short : (c : ℕ) (names : List Name) → list_any (λ d. d == c) (shorts_in names) ≡ is_one_of names (short c)
+any_short c [] = refl
+any_short c (short d ∷ names) = ap (λ b. (d == c) || b) (any_short c names)
+any_short c (long n ∷ names) = any_short c names
+
+any_long : (name : List ℕ) (names : List Name) → list_any (λ m. pointwise ◌==◌ m name) (longs_in names) ≡ is_one_of names (long name)
+any_long name [] = refl
+any_long name (short d ∷ names) = any_long name names
+any_long name (long n ∷ names) = ap (λ b. pointwise ◌==◌ n name || b) (any_long name names)
 
 -- the lists of a kind have a name if and only if an option of the kind has it
 holds_any : (k : Kind) (name : Name) (options : List Declared) → holds k options name ≡ list_any (is_held k name) options
 holds_any k (short c) [] = refl
 holds_any k (long name) [] = refl
 holds_any k (short c) (o ∷ os) =
-    list_any-append (λ d. d == c) (if_kind k o.kind (option_to_list o.short_name)) (shorts_of k os)
-    ∙ ap (λ x. x || list_any (λ d. d == c) (shorts_of k os)) (any_short c k o.kind o.short_name)
-    ∙ ap (λ x. (is_kind k o.kind && is_short c o.short_name) || x) (holds_any k (short c) os)
+    list_any-append (λ d. d == c) (if_kind k o.kind (shorts_in (all_names o))) (shorts_of k os)
+    ∙ ap (λ x. x || list_any (λ d. d == c) (shorts_of k os)) (any_kind (λ d. d == c) k o.kind (shorts_in (all_names o)) ∙ ap (λ b. is_kind k o.kind && b) (any_short c (all_names o)))
+    ∙ ap (λ x. is_held k (short c) o || x) (holds_any k (short c) os)
 holds_any k (long name) (o ∷ os) =
-    list_any-append (λ m. pointwise ◌==◌ m name) (if_kind k o.kind (option_to_list o.long_name)) (longs_of k os)
-    ∙ ap (λ x. x || list_any (λ m. pointwise ◌==◌ m name) (longs_of k os)) (any_long name k o.kind o.long_name)
-    ∙ ap (λ x. (is_kind k o.kind && is_long name o.long_name) || x) (holds_any k (long name) os)
+    list_any-append (λ m. pointwise ◌==◌ m name) (if_kind k o.kind (longs_in (all_names o))) (longs_of k os)
+    ∙ ap (λ x. x || list_any (λ m. pointwise ◌==◌ m name) (longs_of k os)) (any_kind (λ m. pointwise ◌==◌ m name) k o.kind (longs_in (all_names o)) ∙ ap (λ b. is_kind k o.kind && b) (any_long name (all_names o)))
+    ∙ ap (λ x. is_held k (long name) o || x) (holds_any k (long name) os)
 
 -- ---- no two options have a name in common
-
-pub pointwise_refl : (xs : List ℕ) → pointwise ◌==◌ xs xs ≡ true
-pointwise_refl [] = refl
-pointwise_refl (x ∷ xs) = ap (λ b. b && pointwise ◌==◌ xs xs) (eq-eqb x x refl) ∙ pointwise_refl xs
-
-both_short : (c : ℕ) (m n : Option ℕ) → is_short c m ≡ true → is_short c n ≡ true → shares_short n m ≡ true
-both_short c None n e f = absurd (true≢false (sym e))
-both_short c (Some d) None e f = absurd (true≢false (sym f))
-both_short c (Some d) (Some x) e f = eq-eqb x d (eqb-true x c f ∙ sym (eqb-true d c e))
-
-both_long : (name : List ℕ) (m n : Option (List ℕ)) → is_long name m ≡ true → is_long name n ≡ true → shares_long n m ≡ true
-both_long name None n e f = absurd (true≢false (sym e))
-both_long name (Some d) None e f = absurd (true≢false (sym f))
-both_long name (Some d) (Some x) e f =
-    let P : List ℕ → Type 0 = λ l. pointwise ◌==◌ l d ≡ true in
-    let Q : List ℕ → Type 0 = λ l. pointwise ◌==◌ name l ≡ true in
-    subst P (sym (same_text x name (sym f))) (subst Q (sym (same_text d name (sym e))) (pointwise_refl name))
-
--- two options that have the same name share it
-shared : (name : Name) (o p : Declared) → has_name name o ≡ true → has_name name p ≡ true → shares_name o p ≡ true
-shared (short c) o p e f = ap (λ b. b || shares_long p.long_name o.long_name) (both_short c o.short_name p.short_name e f)
-shared (long name) o p e f = or_right (shares_short p.short_name o.short_name) _ (both_long name o.long_name p.long_name e f)
 
 any_shared : (name : Name) (o : Declared) (before : List Declared) → has_name name o ≡ true → list_any (has_name name) before ≡ true → list_any (shares_name o) before ≡ true
 any_shared name o [] e f = absurd (true≢false (sym f))
 any_shared name o (p ∷ ps) e f =
     elim (has_name name p) as (λ v. has_name name p ≡ v → (v || list_any (has_name name) ps) ≡ true → (shares_name o p || list_any (shares_name o) ps) ≡ true) [
-      | true ↦ λ is h. ap (λ b. b || list_any (shares_name o) ps) (shared name o p e is)
+      | true ↦ λ is h. ap (λ b. b || list_any (shares_name o) ps) (any_named name (λ n. has_name n p) (all_names o) e is)
       | false ↦ λ is h. or_right (shares_name o p) _ (any_shared name o ps e h)
     ] refl f
 
-not_shared : (f g h i : Option Reason) (b : Bool) → is_none (or_else f (or_else g (or_else h (or_else i (cond b (Some same_name) None))))) ≡ true → b ≡ false
-not_shared f g h i false e = refl
-not_shared None None None None true e = sym e
-not_shared None None None (Some r) true e = sym e
-not_shared None None (Some r) i true e = sym e
-not_shared None (Some r) h i true e = sym e
-not_shared (Some r) g h i true e = sym e
+not_shared : (f g h : Option Reason) (b : Bool) → is_none (or_else f (or_else g (or_else h (cond b (Some same_name) None)))) ≡ true → b ≡ false
+not_shared f g h false e = refl
+not_shared None None None true e = sym e
+not_shared None None (Some r) true e = sym e
+not_shared None (Some r) h true e = sym e
+not_shared (Some r) g h true e = sym e
 
 -- an option that can be declared has no name of an option before it
 new_names : (name : Name) (before : List Declared) (o : Declared) → is_none (fault before o) ≡ true → list_any (has_name name) before ≡ true → has_name name o ≡ false
 new_names name before o sound there =
     elim (has_name name o) as (λ v. has_name name o ≡ v → v ≡ false) [
-      | true ↦ λ is. sym (any_shared name o before is there) ∙ not_shared (short_fault o.short_name) (long_fault o.long_name) (placeholder_fault o.kind o.placeholder) (list_fault o.words) (list_any (shares_name o) before) sound
+      | true ↦ λ is. sym (any_shared name o before is there) ∙ not_shared (names_fault name_fault (all_names o)) (placeholder_fault o.kind o.placeholder) (list_fault o.words) (list_any (shares_name o) before) sound
       | false ↦ λ is. refl
     ] refl
 
@@ -218,3 +219,19 @@ position_here p before os o none is =
     len_here (x ∷ xs) none =
         let parts = or_parts (p x) (list_any p xs) none in
         ap (λ b. if not b then 1 + position_or_len p (xs ++ o ∷ os) else 0) parts.0 ∙ ap (λ n. 1 + n) (len_here xs parts.1) ∙ omega arith
+
+-- an option of a sound list has the index of its name
+named_there : (before os : List Declared) (name : Name) (i : ℕ) (d : Declared) → list_all is_none (faults before os) ≡ true → i < length os → has_name name (get_or os i d) ≡ true
+    → position (has_name name) (before ++ os) ≡ Some (length before + i)
+named_there before [] name i d sound within has = absurd (omega (arith, within))
+named_there before (o ∷ os) name zero d sound within has =
+    let parts = and_parts (is_none (fault before o)) _ sound in
+    position_here (has_name name) before os o (none_before name before o parts.0 has) has ∙ ap (λ n. Some n) (omega arith)
+named_there before (o ∷ os) name (suc i) d sound within has =
+    let parts = and_parts (is_none (fault before o)) _ sound in
+    ap (position (has_name name)) (sym (append_assoc before (o ∷ []) os))
+    ∙ named_there (before ++ o ∷ []) os name i d parts.1 (omega (arith, within)) has ∙ ap (λ n. Some n) (let e = length-append before (o ∷ []) in omega (arith, e))
+
+pub index_there : (options : List Declared) (name : Name) (i : ℕ) (d : Declared) → is_sound options ≡ true → i < length options → has_name name (get_or options i d) ≡ true
+    → index_of options name ≡ Some i
+index_there options name i d sound within has = named_there [] options name i d sound within has ∙ ap (λ n. Some n) (omega arith)

@@ -5,11 +5,12 @@ use Rattle.std.specs.Prelude.{Bool, true, false, nat_eq, List, [], ◌∷◌, ma
 use Rattle.std.specs.Prelude.{encode_utf8, filter, slice_get, unwrap_or}
 use Rattle.std.specs.Char.{IsScalar}
 use Rattle.std.specs.List.{Contains, flat_map, list_any, starts_with}
-use Rattle.std.specs.Option.{option_map, option_to_list}
+use Rattle.std.specs.Option.{option_map}
 use Rattle.std.specs.Str.{IsUtf8}
 use Rattle.lexopt_spec.specs.UnreadLine.{dash, BeginsWith, IsPlain}
 use Rattle.lexopt_line_spec.specs.Table.{Name, short, long}
 use Rattle.lexopt_options_spec.specs.Declaration.{Declaration, Declared, has_name, index_of}
+use Rattle.lexopt_options_spec.specs.Declaration.{is_one_of, names_of}
 use Rattle.lexopt_options_spec.specs.Declaration.{Positional, Words, listed}
 use Rattle.lexopt_options_spec.specs.Help.{visible}
 use Rattle.lexopt_options_spec.specs.Legal.{IsWithin, Parsed, Means, MeansFront, most, option}
@@ -42,12 +43,12 @@ pub record CanOccur (d : Declaration) (words : List (List ℕ)) (s : List ℕ) :
   pub words_say : MeansFront d words before
   pub line_means : Means d (words ++ s ∷ rest) (before ++ parsed ∷ later)
 
--- an option with this name is not hidden
+-- an option that is not hidden has this name as its own
 abbrev pub is_shown : List Declared → Name → Bool
-is_shown options name = list_any (has_name name) (visible options)
+is_shown options name = list_any (λ o. is_one_of (names_of o) name) (visible options)
 
--- after these words, s can come where `typed` is typed, which is UTF-8, and the option that it
--- spells is not hidden
+-- after these words, s can come where `typed` is typed, which is UTF-8, and it spells an own name
+-- of an option that is not hidden
 pub record Completes (d : Declaration) (words : List (List ℕ)) (typed s : List ℕ) : Type 0 where
   pub text : IsUtf8 typed
   pub begins : starts_with nat_eq s typed ≡ true
@@ -61,10 +62,6 @@ pub record Completes (d : Declaration) (words : List (List ℕ)) (typed s : List
 pub record IsOpen (d : Declaration) (words : List (List ℕ)) (l : List Parsed) : Type 0 where
   pub front : MeansFront d words l
   pub with_separator : MeansFront d (words ++ (dash ∷ dash ∷ []) ∷ []) l
-
--- the names of an option
-abbrev pub names_of : Declared → List Name
-names_of o = map short (option_to_list o.short_name) ++ map long (option_to_list o.long_name)
 
 -- the spellings of these options, in order
 abbrev pub spellings : List Declared → List (List ℕ)

@@ -3,11 +3,11 @@ use Rattle.std.specs.Prelude.{ℕ, suc, Bool, false, nat_eq, ◌||◌, List, [],
 use Rattle.std.specs.Prelude.{Option, Some, None, if◌then◌else◌}
 use Rattle.std.specs.List.{list_any, starts_with}
 use Rattle.lexopt_spec.specs.UnreadLine.{equals}
+use Rattle.lexopt_line_spec.specs.Table.{Name, short, long}
 use Rattle.lexopt_options_spec.specs.Declaration.{Declared, Reason, empty_name, equals_in_name}
 use Rattle.lexopt_options_spec.specs.Declaration.{replacement_in_name, blank_or_control_in_name}
-use Rattle.lexopt_options_spec.specs.Declaration.{same_name, has, is_blank_or_control, is_empty}
-use Rattle.lexopt_options_spec.specs.Declaration.{or_else, short_fault, placeholder_fault}
-use Rattle.lexopt_options_spec.specs.Declaration.{list_fault, shares_name}
+use Rattle.lexopt_options_spec.specs.Declaration.{fault_by, has, is_blank_or_control, is_empty}
+use Rattle.lexopt_options_spec.specs.Declaration.{short_fault}
 
 -- the bytes of U+FFFD are among these, one after another
 abbrev pub has_replacement : List ℕ → Bool
@@ -16,18 +16,16 @@ has_replacement (b ∷ bs) =
     starts_with nat_eq (b ∷ bs) (0xEF ∷ 0xBF ∷ 0xBD ∷ []) || has_replacement bs
 
 -- what is wrong with a name, found in its bytes
-abbrev pub name_fault : Option (List ℕ) → Option Reason
-name_fault None = None
-name_fault (Some name) = if is_empty name then Some empty_name
+abbrev pub byte_fault : Name → Option Reason
+byte_fault (short c) = short_fault c
+byte_fault (long name) = if is_empty name then Some empty_name
     else (if has equals name then Some equals_in_name
     else (if has_replacement name then Some replacement_in_name
     else (if list_any is_blank_or_control name then Some blank_or_control_in_name else None)))
 
 -- why this option cannot be declared beside these
 abbrev pub fault_beside : List Declared → Declared → Option Reason
-fault_beside others o = or_else (short_fault o.short_name) (or_else (name_fault o.long_name)
-    (or_else (placeholder_fault o.kind o.placeholder) (or_else (list_fault o.words)
-    (if list_any (shares_name o) others then Some same_name else None))))
+fault_beside others o = fault_by byte_fault others o
 
 -- this index and reason, if there is a reason; otherwise those that were found later
 abbrev pub or_later : ℕ → Option Reason → Option (ℕ × Reason) → Option (ℕ × Reason)

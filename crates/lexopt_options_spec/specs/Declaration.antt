@@ -2,7 +2,7 @@
 -- `docs/behaviour.md`. Names are without their dashes, texts are their UTF-8.
 use Rattle.std.specs.Prelude.{◌≡◌, ℕ, Bool, true, false, ◌==◌, ◌||◌, ◌&&◌, not, List, [], ◌∷◌, ◌++◌}
 use Rattle.std.specs.Prelude.{Option, Some, None, is_none, position, slice_get, take, if◌then◌else◌}
-use Rattle.std.specs.Prelude.{filter, length, nat_lt}
+use Rattle.std.specs.Prelude.{filter, length, map, nat_lt}
 use Rattle.std.specs.Option.{option_to_list}
 use Rattle.std.specs.List.{flat_map, list_all, list_any}
 use Rattle.std.specs.Cmp.Lexicographic.{pointwise}
@@ -43,12 +43,18 @@ pub record Declared : Type 0 where
   pub help : List ℕ
   -- what it asks for, if anything
   pub asks : Option Asked
+  -- its heading in the help; empty if it has none
+  pub heading : List ℕ
   -- the help leaves it out, completion does not offer it, and no hint has its name
   pub hidden : Bool
   -- every legal line has it
   pub required : Bool
   -- what its values may be
   pub words : Words
+  -- the help leaves out the list of its values
+  pub hides_list : Bool
+  -- further names, by which lines may have it, and which nothing shows
+  pub aliases : List Name
 
 -- how often a positional may occur
 pub data Count : Type 0 where
@@ -74,17 +80,21 @@ may_repeat at_least_once = true
 pub record Positional : Type 0 where
   pub placeholder : List ℕ
   pub count : Count
-  -- its help text; the help has no entry for a positional without a list whose help text has no
-  -- word
+  -- its help text; the help has no entry for a positional whose help text has no word, unless it
+  -- shows its list
   pub help : List ℕ
   -- what its words may be
   pub words : Words
+  -- the help leaves out the list of its words
+  pub hides_list : Bool
 
 pub record Declaration : Type 0 where
   -- the program's name
   pub program : List ℕ
   -- what the program does
   pub about : List ℕ
+  -- what comes after the name in each usage line; if there is none, one usage line is generated
+  pub usage : List (List ℕ)
   pub options : List Declared
   pub positionals : List Positional
   -- paragraphs at the end of the help
@@ -94,18 +104,27 @@ pub record Declaration : Type 0 where
 
 -- ---- an option by its name
 
-abbrev pub is_short : ℕ → Option ℕ → Bool
-is_short c None = false
-is_short c (Some d) = d == c
+-- an option's own names, which the help, messages and shells show
+abbrev pub names_of : Declared → List Name
+names_of o = map short (option_to_list o.short_name) ++ map long (option_to_list o.long_name)
 
-abbrev pub is_long : List ℕ → Option (List ℕ) → Bool
-is_long name None = false
-is_long name (Some n) = pointwise ◌==◌ n name
+-- all of its names, which lines may have
+abbrev pub all_names : Declared → List Name
+all_names o = names_of o ++ o.aliases
+
+-- both are the same name
+abbrev pub is_name : Name → Name → Bool
+is_name (short c) (short d) = d == c
+is_name (long name) (long n) = pointwise ◌==◌ n name
+is_name name n = false
+
+-- the name is one of these
+abbrev pub is_one_of : List Name → Name → Bool
+is_one_of names name = list_any (is_name name) names
 
 -- the option has this name
 abbrev pub has_name : Name → Declared → Bool
-has_name (short c) o = is_short c o.short_name
-has_name (long name) o = is_long name o.long_name
+has_name name o = is_one_of (all_names o) name
 
 -- the index of the first option with this name, counted from 0
 abbrev pub index_of : List Declared → Name → Option ℕ
@@ -120,13 +139,25 @@ if_kind optional optional xs = xs
 if_kind several several xs = xs
 if_kind k l xs = []
 
+-- the characters among these names, in order
+abbrev pub shorts_in : List Name → List ℕ
+shorts_in [] = []
+shorts_in (short c ∷ names) = c ∷ shorts_in names
+shorts_in (long name ∷ names) = shorts_in names
+
+-- the long names among these, in order
+abbrev pub longs_in : List Name → List (List ℕ)
+longs_in [] = []
+longs_in (short c ∷ names) = longs_in names
+longs_in (long name ∷ names) = name ∷ longs_in names
+
 -- the characters of the options of this kind, in order
 abbrev pub shorts_of : Kind → List Declared → List ℕ
-shorts_of k options = flat_map (λ o. if_kind k o.kind (option_to_list o.short_name)) options
+shorts_of k options = flat_map (λ o. if_kind k o.kind (shorts_in (all_names o))) options
 
--- the names of the options of this kind, in order
+-- the long names of the options of this kind, in order
 abbrev pub longs_of : Kind → List Declared → List (List ℕ)
-longs_of k options = flat_map (λ o. if_kind k o.kind (option_to_list o.long_name)) options
+longs_of k options = flat_map (λ o. if_kind k o.kind (longs_in (all_names o))) options
 
 -- the table of the options: how many values each has
 abbrev pub table : List Declared → Table
@@ -160,16 +191,15 @@ pub data Reason : Type 0 where
   -- the list of its values is empty, or one of them is empty, begins with `-` or `=`, or has a
   -- blank or a control character
   bad_list : Reason
-  -- an option before it has the same character or name
+  -- an option before it has one of its names
   same_name : Reason
 
 -- a blank or a control character of ASCII
 abbrev pub is_blank_or_control : ℕ → Bool
 is_blank_or_control b = nat_lt b 0x21 || b == 0x7F
 
-abbrev pub short_fault : Option ℕ → Option Reason
-short_fault None = None
-short_fault (Some c) = if c == dash then Some dash_name
+abbrev pub short_fault : ℕ → Option Reason
+short_fault c = if c == dash then Some dash_name
     else (if c == replacement then Some replacement_in_name
     else (if is_blank_or_control c then Some blank_or_control_in_name else None))
 
@@ -180,12 +210,16 @@ is_empty (b ∷ bs) = false
 abbrev pub has : ℕ → List ℕ → Bool
 has c list = list_any (λ b. b == c) list
 
-abbrev pub long_fault : Option (List ℕ) → Option Reason
-long_fault None = None
-long_fault (Some name) = if is_empty name then Some empty_name
+abbrev pub long_fault : List ℕ → Option Reason
+long_fault name = if is_empty name then Some empty_name
     else (if has equals name then Some equals_in_name
     else (if has replacement (lossy_characters name) then Some replacement_in_name
     else (if list_any is_blank_or_control name then Some blank_or_control_in_name else None)))
+
+-- what is wrong with a name
+abbrev pub name_fault : Name → Option Reason
+name_fault (short c) = short_fault c
+name_fault (long name) = long_fault name
 
 abbrev pub is_placeholder : List ℕ → Bool
 is_placeholder [] = false
@@ -210,24 +244,28 @@ abbrev pub or_else : Option Reason → Option Reason → Option Reason
 or_else None other = other
 or_else (Some reason) other = Some reason
 
-abbrev pub shares_short : Option ℕ → Option ℕ → Bool
-shares_short other None = false
-shares_short other (Some c) = is_short c other
+-- the first fault among these names, given the fault of each
+abbrev pub names_fault : (Name → Option Reason) → List Name → Option Reason
+names_fault fault_of [] = None
+names_fault fault_of (n ∷ ns) = or_else (fault_of n) (names_fault fault_of ns)
 
-abbrev pub shares_long : Option (List ℕ) → Option (List ℕ) → Bool
-shares_long other None = false
-shares_long other (Some name) = is_long name other
+-- one of these names is one of the others
+abbrev pub share : List Name → List Name → Bool
+share names others = list_any (is_one_of others) names
 
--- the other option has the character or the name of this one
+-- the other option has a name of this one
 abbrev pub shares_name : Declared → Declared → Bool
-shares_name o other =
-    shares_short other.short_name o.short_name || shares_long other.long_name o.long_name
+shares_name o other = share (all_names o) (all_names other)
+
+-- why this option cannot be declared after those before it, given the fault of each name
+abbrev pub fault_by : (Name → Option Reason) → List Declared → Declared → Option Reason
+fault_by fault_of before o = or_else (names_fault fault_of (all_names o))
+    (or_else (placeholder_fault o.kind o.placeholder) (or_else (list_fault o.words)
+    (if list_any (shares_name o) before then Some same_name else None)))
 
 -- why this option cannot be declared after those before it
 abbrev pub fault : List Declared → Declared → Option Reason
-fault before o = or_else (short_fault o.short_name) (or_else (long_fault o.long_name)
-    (or_else (placeholder_fault o.kind o.placeholder) (or_else (list_fault o.words)
-    (if list_any (shares_name o) before then Some same_name else None))))
+fault before o = fault_by name_fault before o
 
 -- why each of these options cannot be declared, where others come before them
 abbrev pub faults : List Declared → List Declared → List (Option Reason)

@@ -1,6 +1,6 @@
 -- The declarations of the worked examples.
 use Rattle.std.specs.Prelude.{ℕ, List, [], ◌∷◌, Option, None, Some, codes, false, true}
-use Rattle.lexopt_line_spec.specs.Table.{Kind, flag, one}
+use Rattle.lexopt_line_spec.specs.Table.{Kind, Name, flag, long, one, optional, short}
 use Rattle.lexopt_options_spec.specs.Completion.{Joined}
 use Rattle.lexopt_options_spec.specs.Declaration.{Declaration, Declared, Positional, Words, files}
 use Rattle.lexopt_options_spec.specs.Declaration.{listed, once}
@@ -14,14 +14,30 @@ demanded_option c name kind placeholder = record {
   placeholder = placeholder;
   help = [];
   asks = None;
+  heading = [];
   hidden = false;
   required = true;
   words = files;
+  hides_list = false;
+  aliases = [];
 }
 
 -- the flag `-v`
 abbrev pub voluntary_option : Declared
 voluntary_option = record (demanded_option (Some 0x76) None flag []) { required = false }
+
+-- the option with these further names
+abbrev pub also : List Name → Declared → Declared
+also names o = record o { aliases = names }
+
+-- `--color[=WHEN]`, which is `-C` and `--colour` too
+abbrev pub color : Declared
+color = record (also (short 0x43 ∷ long (codes "colour") ∷ []) voluntary_option) {
+  short_name = None;
+  long_name = Some (codes "color");
+  kind = optional;
+  placeholder = codes "WHEN";
+}
 
 -- an option whose values may be these
 abbrev pub option_of : Option (List ℕ) → Words → Declared
@@ -30,14 +46,20 @@ option_of name words =
 
 -- a positional that occurs once
 abbrev pub positional_of : List ℕ → List ℕ → Words → Positional
-positional_of placeholder help words =
-    record { placeholder = placeholder; count = once; help = help; words = words }
+positional_of placeholder help words = record {
+  placeholder = placeholder;
+  count = once;
+  help = help;
+  words = words;
+  hides_list = false;
+}
 
 -- these options and positionals
 abbrev pub declaration_of : List Declared → List Positional → Declaration
 declaration_of options positionals = record {
   program = codes "pack";
   about = [];
+  usage = [];
   options = options;
   positionals = positionals;
   epilogue = [];

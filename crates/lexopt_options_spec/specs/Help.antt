@@ -1,12 +1,13 @@
--- The help of declared options: lines of words, labels, entries, the usage line, and the whole. The
+-- The help of declared options: lines of words, labels, entries, the usage, and the whole. The
 -- source is `docs/behaviour.md`, which follows the GNU Coding Standards and the output of
 -- `ls --help`. Texts are their UTF-8. Columns are counted from 0.
-use Rattle.std.specs.Prelude.{◌≡◌, ◌≤◌, ◌<◌, ◌⊎◌, ℕ, Bool, ◌+◌, ◌-◌, ◌/◌, min, nat_le, ◌==◌, not}
-use Rattle.std.specs.Prelude.{if◌then◌else◌, List, [], ◌∷◌, ◌++◌, length, take, filter, replicate}
+use Rattle.std.specs.Prelude.{◌≡◌, ◌≤◌, ◌<◌, ◌⊎◌, ℕ, Bool, false, true, ◌+◌, ◌-◌, ◌/◌, min, nat_le, ◌==◌, not}
+use Rattle.std.specs.Prelude.{if◌then◌else◌, List, [], ◌∷◌, ◌++◌, length, take, drop, filter, replicate}
 use Rattle.std.specs.Prelude.{codes, encode_utf8, map, Option, Some, None}
 use Rattle.std.specs.Char.{IsScalar}
 use Rattle.std.specs.Str.{IsUtf8, chars}
-use Rattle.std.specs.List.{AllZip, concat, ends_with, flat_map, join_by, join_with_byte, slice_split, sum_by}
+use Rattle.std.specs.List.{AllZip, concat, ends_with, flat_map, join_by, join_with_byte, slice_split}
+use Rattle.std.specs.List.{starts_with, sum_by}
 use Rattle.bstr.specs.Unicode.{grapheme_spans}
 use Rattle.lexopt_spec.specs.Text.{escaped}
 use Rattle.lexopt_spec.specs.UnreadLine.{dash, equals}
@@ -224,7 +225,7 @@ pub record IsEntry (width : ℕ) (label help text : List ℕ) : Type 0 where
   pub wrapped : Wraps (width - help_column width) (words_of help) lines
   pub written : text ≡ entry (help_column width) label lines
 
--- ---- the usage line
+-- ---- the usage
 
 -- the options that are not hidden
 abbrev pub visible : List Declared → List Declared
@@ -260,21 +261,35 @@ counted at_least_once placeholder = placeholder ++ codes "..."
 abbrev pub positional_mark : Positional → List ℕ
 positional_mark p = counted p.count p.placeholder
 
--- the words of the usage line: the name of the program, `[OPTION]...` for options that are not
--- required, each required option, and the positionals
+-- the words of the usage line that is generated: the name of the program, `[OPTION]...` for options
+-- that are not required, each required option, and the positionals
 abbrev pub usage_words : Declaration → List (List ℕ)
 usage_words d = d.program ∷ options_mark (voluntary (visible d.options))
     ++ map option_mark (demanded (visible d.options)) ++ map positional_mark d.positionals
 
--- the column where the words of the usage line begin
+-- the words of the first usage line, where the program gives these texts for its usage lines
+abbrev pub first_usage : Declaration → List (List ℕ) → List (List ℕ)
+first_usage d [] = usage_words d
+first_usage d (text ∷ texts) = d.program ∷ words_of text
+
+-- the column where the words of a usage line begin
 abbrev pub usage_column : ℕ
 usage_column = 7
 
--- the text is the usage line, on as many lines as it needs
-pub record IsUsage (width : ℕ) (d : Declaration) (text : List ℕ) : Type 0 where
+-- the text is the usage line of these words, on as many lines as it needs, without how it begins
+pub record IsUsageLine (width : ℕ) (words : List (List ℕ)) (text : List ℕ) : Type 0 where
   pub lines : List Line
-  pub wrapped : Wraps (width - usage_column) (usage_words d) lines
-  pub written : text ≡ codes "Usage: " ++ below usage_column lines ++ line_feed ∷ []
+  pub wrapped : Wraps (width - usage_column) words lines
+  pub written : text ≡ below usage_column lines ++ line_feed ∷ []
+
+-- the text is the usage: the first usage line, and one for each other text that the program gives
+pub record IsUsage (width : ℕ) (d : Declaration) (text : List ℕ) : Type 0 where
+  pub first : List ℕ
+  pub others : List (List ℕ)
+  pub first_line : IsUsageLine width (first_usage d d.usage) first
+  pub other_lines :
+      AllZip (λ own. IsUsageLine width (d.program ∷ words_of own)) (drop 1 d.usage) others
+  pub written : text ≡ codes "Usage: " ++ first ++ flat_map (λ line. codes "  or:  " ++ line) others
 
 -- ---- a paragraph
 
@@ -310,25 +325,54 @@ list_after help values = if is_sentence help
     then help ++ (codes " One of " ++ (values ++ codes "."))
     else help ++ (codes ": one of " ++ values)
 
--- the text of an entry: this help text, and the list if there is one
+-- this help text, and the list if there is one
 abbrev pub with_list : List ℕ → Words → List ℕ
 with_list [] (listed values) = codes "one of " ++ list_text (map escaped_text values)
 with_list help (listed values) = list_after help (list_text (map escaped_text values))
 with_list help words = help
+
+-- the text of an entry: this help text, and the list unless the help leaves it out
+abbrev pub told : Bool → List ℕ → Words → List ℕ
+told true help words = help
+told false help words = with_list help words
+
+abbrev pub option_text : Declared → List ℕ
+option_text o = told o.hides_list o.help o.words
+
+abbrev pub positional_text : Positional → List ℕ
+positional_text p = told p.hides_list p.help p.words
+
+-- ---- headings
+
+-- a heading, on a line of its own after an empty line; nothing if it is empty
+abbrev pub heading_lines : List ℕ → List ℕ
+heading_lines [] = []
+heading_lines (b ∷ bs) = line_feed ∷ b ∷ bs ++ codes ":\n"
+
+-- the text is the heading of this option, if it has one, and its entry
+pub record IsOption (width : ℕ) (o : Declared) (text : List ℕ) : Type 0 where
+  pub own : List ℕ
+  pub is_entry : IsEntry width (label o) (option_text o) own
+  pub written : text ≡ heading_lines o.heading ++ own
 
 -- ---- the whole text
 
 -- the positionals that have an entry
 abbrev pub described : List Positional → List Positional
 described positionals =
-    filter (λ p. not (length (words_of (with_list p.help p.words)) == 0)) positionals
+    filter (λ p. not (length (words_of (positional_text p)) == 0)) positionals
 
 -- a part of the help after an empty line; nothing if the part is empty
 abbrev pub set_apart : List ℕ → List ℕ
 set_apart [] = []
 set_apart (b ∷ bs) = line_feed ∷ b ∷ bs
 
--- the text is the help: the usage line; what the program does; an entry for each positional that
+-- the options after an empty line, with which a heading begins; nothing if there are none
+abbrev pub options_part : List ℕ → List ℕ
+options_part text =
+    if starts_with (λ a b. a == b) text (line_feed ∷ []) then text else set_apart text
+
+-- the text is the help: the usage; what the program does; an entry for each positional that
 -- has one, and for each option that is not hidden; and the paragraphs of the epilogue
 pub record IsHelp (d : Declaration) (width : ℕ) (text : List ℕ) : Type 0 where
   pub usage : List ℕ
@@ -339,10 +383,9 @@ pub record IsHelp (d : Declaration) (width : ℕ) (text : List ℕ) : Type 0 whe
   pub usage_first : IsUsage width d usage
   pub about_next : IsParagraph width d.about about
   pub each_positional :
-      AllZip (λ p. IsEntry width p.placeholder (with_list p.help p.words)) (described d.positionals)
+      AllZip (λ p. IsEntry width p.placeholder (positional_text p)) (described d.positionals)
       positionals
-  pub each_option :
-      AllZip (λ o. IsEntry width (label o) (with_list o.help o.words)) (visible d.options) options
+  pub each_option : AllZip (IsOption width) (visible d.options) options
   pub each_paragraph : AllZip (IsParagraph width) d.epilogue epilogue
   pub written : text ≡ usage ++ about ++ set_apart (concat positionals)
-      ++ set_apart (concat options) ++ flat_map set_apart epilogue
+      ++ options_part (concat options) ++ flat_map set_apart epilogue

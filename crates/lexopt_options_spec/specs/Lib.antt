@@ -4,9 +4,9 @@ pub mod Legal
 pub mod Places
 pub mod Stops
 pub mod Asking
-pub mod Leading
 pub mod Nearest
 pub mod Completion
 pub mod States
+pub mod Rest
 pub mod Help
 pub mod Examples

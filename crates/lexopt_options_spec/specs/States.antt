@@ -79,10 +79,13 @@ opens (first i) = false
 opens (further i) = true
 opens ended = false
 
--- a plain word is one more value of an option
-abbrev pub is_further : State → Bool
-is_further (further i) = true
-is_further other = false
+-- a plain word is a positional
+abbrev pub takes_positional : State → Bool
+takes_positional anything = true
+takes_positional (due i) = false
+takes_positional (first i) = false
+takes_positional (further i) = false
+takes_positional ended = true
 
 -- this many positionals are as many as the limit allows, if there is a limit
 abbrev pub is_full : Option ℕ → ℕ → Bool

@@ -96,3 +96,11 @@ placeholder_at options index =
 -- the placeholder of the required positional with this number, counted from 0
 abbrev pub required_placeholder : List Positional → ℕ → List ℕ
 required_placeholder ps n = slice_index_or (map (λ p. p.placeholder) (required ps)) n []
+
+-- it is a mistake of an option, and not that an option is missing
+abbrev pub IsOfOption : Mistake → Type 0
+IsOfOption (unknown_option name left) = Unit {0}
+IsOfOption (unexpected_value option value) = Unit {0}
+IsOfOption (missing_value index option) = Unit {0}
+IsOfOption (invalid_value index value) = Unit {0}
+IsOfOption mistake = ⊥

@@ -3,11 +3,12 @@ ghost use Rattle.std.specs.Prelude.{◌≡◌, ◌∷◌, ◌++◌, [], None, So
 ghost use Rattle.lexopt_line_spec.specs.Table.{flag, one, optional, several};
 ghost use Rattle.lexopt_options_spec.specs.Declaration.{any_number, at_least_once, at_most_once};
 ghost use Rattle.lexopt_options_spec.specs.Declaration.{directories, files, listed, once};
-ghost use Rattle.lexopt_options_spec.specs.Help.{below, columns, described, help_column, label_of};
-ghost use Rattle.lexopt_options_spec.specs.Help.{line_feed, mark_of, option_mark, paragraph};
+ghost use Rattle.lexopt_options_spec.specs.Help.{below, columns, described, first_usage, heading_lines};
+ghost use Rattle.lexopt_options_spec.specs.Help.{help_column, option_text, options_part};
+ghost use Rattle.lexopt_options_spec.specs.Help.{label_of, line_feed, mark_of, option_mark, paragraph};
 ghost use Rattle.lexopt_options_spec.specs.Help.{set_apart, with_list, usage_words, words_of};
 ghost use Rattle.lexopt_options_spec.specs.Examples.{declaration_of, demanded_option, positional_of};
-ghost use Rattle.lexopt_options_spec.specs.Examples.{voluntary_option};
+ghost use Rattle.lexopt_options_spec.specs.Examples.{option_of, voluntary_option};
 
 /// The labels of options with one name and with both.
 pub fn labels_look_so()
@@ -54,6 +55,18 @@ pub fn usage_lines_have_these_words()
         (record voluntary_option { hidden = true } ∷ []) []) ≡ codes "pack" ∷ [] }
 {}
 
+/// The first text that a program gives for its usage stands in place of the words that are
+/// generated, even if it is empty.
+pub fn usage_lines_are_given()
+    ensures none { first_usage (declaration_of (voluntary_option ∷ []) []) []
+        ≡ codes "pack" ∷ codes "[OPTION]..." ∷ [] }
+    ensures two { first_usage (declaration_of (voluntary_option ∷ []) [])
+        (codes "SOURCE  DEST" ∷ codes "DEST" ∷ [])
+        ≡ codes "pack" ∷ codes "SOURCE" ∷ codes "DEST" ∷ [] }
+    ensures empty { first_usage (declaration_of (voluntary_option ∷ []) []) ([] ∷ [])
+        ≡ codes "pack" ∷ [] }
+{}
+
 /// The usage line shows a required option by its long name or by its character; `[OPTION]...` is
 /// for the other options. It does not show hidden options. A positional that occurs at least once
 /// has dots after it.
@@ -81,13 +94,15 @@ pub fn usage_lines_show_what_is_required()
         ≡ codes "pack" ∷ [] }
 {}
 
-/// A positional has an entry if its help text has a word, or if it has a list.
+/// A positional has an entry if its help text has a word, or if the help shows its list.
 pub fn positionals_are_described()
     ensures one_of_two { described (positional_of (codes "MODE") (codes " ") files
         ∷ positional_of (codes "FILE") (codes "to pack") files ∷ [])
         ≡ positional_of (codes "FILE") (codes "to pack") files ∷ [] }
     ensures list { described (positional_of (codes "MODE") [] (listed (codes "fast" ∷ [])) ∷ [])
         ≡ positional_of (codes "MODE") [] (listed (codes "fast" ∷ [])) ∷ [] }
+    ensures hidden_list { described (record (positional_of (codes "MODE") []
+        (listed (codes "fast" ∷ []))) { hides_list = true } ∷ []) ≡ [] }
 {}
 
 /// The list of an option comes after its help text, as a sentence of its own if the text ends with a
@@ -107,6 +122,22 @@ pub fn lists_are_shown()
     ensures escaped { with_list [] (listed (codes "fast" ∷ (0xC2 ∷ 0x9B ∷ []) ∷ []))
         ≡ codes "one of fast, \\u{9b}" }
     ensures no_list { with_list (codes "where to") directories ≡ codes "where to" }
+    ensures shown { option_text (option_of None (listed (codes "fast" ∷ [])))
+        ≡ codes "one of fast" }
+    ensures hidden { option_text (record (option_of None (listed (codes "fast" ∷ []))) {
+      help = codes "how to pack";
+      hides_list = true;
+    }) ≡ codes "how to pack" }
+{}
+
+/// A heading comes after an empty line. There is one empty line before the first option, whether it
+/// has a heading or not.
+pub fn headings_are_lines()
+    ensures none { heading_lines [] ≡ [] }
+    ensures some { heading_lines (codes "Output") ≡ codes "\nOutput:\n" }
+    ensures no_option { options_part [] ≡ [] }
+    ensures no_heading { options_part (codes "  -v\n") ≡ codes "\n  -v\n" }
+    ensures first_heading { options_part (codes "\nOutput:\n  -v\n") ≡ codes "\nOutput:\n  -v\n" }
 {}
 
 /// A paragraph with words has lines of its own.

@@ -8,7 +8,7 @@ ghost use Rattle.lexopt_options_spec.specs.Declarable.{first_fault};
 ghost use Rattle.lexopt_options_spec.specs.Declaration.{Declaration, Declared, IsFirstFault, Reason};
 ghost use Rattle.lexopt_options_spec.specs.Declaration.{is_sound, table};
 ghost use Rattle.lexopt_options_spec.specs.Help.{HasTextNames, IsEntry, IsHelp, IsParagraph};
-ghost use Rattle.lexopt_options_spec.specs.Help.{IsUsage, LabelForm, Line, ShowsName, blanks};
+ghost use Rattle.lexopt_options_spec.specs.Help.{IsUsage, IsUsageLine, LabelForm, Line, ShowsName, blanks};
 ghost use Rattle.lexopt_options_spec.specs.Help.{columns, gap, help_column, label, line_columns};
 ghost use Rattle.lexopt_options_spec.specs.Help.{line_feed};
 ghost use Rattle.lexopt_options_spec.specs.Help.{usage_column};
@@ -60,7 +60,7 @@ pub fn labels_show_their_names()
         × (label o ≡ first ++ codes ", " ++ second) }
 {}
 
-/// For each width, a declaration has exactly one usage line and exactly one help.
+/// For each width, a declaration has exactly one usage and exactly one help.
 pub fn each_declaration_has_one_help()
     ensures some_usage { (d : Declaration) (width : ℕ) → (text : List ℕ) × IsUsage width d text }
     ensures no_other_usage { (d : Declaration) (width : ℕ) (text other : List ℕ)
@@ -70,14 +70,14 @@ pub fn each_declaration_has_one_help()
         → IsHelp d width other → text ≡ other }
 {}
 
-/// The words on a line of the usage line end within the width, if they begin at column 7, and so do
+/// The words on a line of a usage line end within the width, if they begin at column 7, and so do
 /// those on a line of a paragraph, if they begin at column 0, and those on a line of a help text,
 /// if they begin at the column of help texts. A line that is one word may be wider. A help text
 /// begins at its column: on the line of its label if at least two blanks then come between them,
 /// and otherwise on the next line. A line feed inside a word is not counted as the end of a line.
 pub fn lines_are_in_columns()
-    ensures usage { (width : ℕ) (d : Declaration) (text : List ℕ) (u : IsUsage width d text)
-        (line : Line) → Contains u.lines line
+    ensures usage { (width : ℕ) (words : List (List ℕ)) (text : List ℕ)
+        (u : IsUsageLine width words text) (line : Line) → Contains u.lines line
         → (usage_column + line_columns line ≤ width) ⊎ (length line ≡ 1) }
     ensures paragraph { (width : ℕ) (content text : List ℕ) (p : IsParagraph width content text)
         (line : Line) → Contains p.lines line

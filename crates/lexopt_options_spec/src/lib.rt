@@ -10,3 +10,4 @@
 mod help_examples;
 pub mod laws;
 mod list_examples;
+mod name_examples;

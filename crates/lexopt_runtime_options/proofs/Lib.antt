@@ -1,3 +1,4 @@
 pub mod FirstFaults
 pub mod Repeated
 pub mod BadLists
+pub mod OptionNames

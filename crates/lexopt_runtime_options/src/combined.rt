@@ -86,6 +86,7 @@ impl<'a, F: Copy, V: Copy, P, M: Copy, S: Copy> Combined<'a, F, V, P, M, S> {
         Declaration {
             program: self.declaration.program,
             about: self.declaration.about,
+            usage: self.declaration.usage,
             options: &self.options,
             positionals: self.declaration.positionals,
             epilogue: self.declaration.epilogue,

@@ -8,7 +8,7 @@ ghost use Rattle.lexopt_options_spec.specs.Declaration as spec;
 ghost use Rattle.lexopt_options_spec.specs.Declaration.{are_clear, are_listable, has, is_sound};
 ghost use Rattle.lexopt_declaration.specs.Declarations.{declaration_view};
 ghost use Rattle.lexopt_declaration.specs.Models.{arity_kind, arity_placeholder, option_view};
-ghost use Rattle.lexopt_declaration.specs.Models.{positional_view, words_view};
+ghost use Rattle.lexopt_declaration.specs.Models.{names_list, positional_view, words_view};
 ghost use Rattle.lexopt_options.specs.Declarations.{declaration_of, options_of, positionals_of};
 ghost use Rattle.lexopt_runtime_options.specs.Faults.{IsDeclarationError, IsListError};
 ghost use Rattle.lexopt_runtime_options.specs.Faults.{IsOptionError, IsPositionalError, reason_view};
@@ -16,6 +16,7 @@ ghost use Rattle.lexopt_runtime_options.specs.Faults.{IsOptionError, IsPositiona
 use lexopt_declaration::declaration::{
     Arity, Declaration, Declared, Names, Positional, Words, are_text,
 };
+use lexopt_declaration::lookup::has_alias;
 use lexopt_declaration::message::Escaped;
 use lexopt_declaration::positionals::may_repeat;
 use lexopt_options::Options;
@@ -42,7 +43,7 @@ pub enum Reason {
     /// The list of its values is empty, or one of them is empty, begins with `-` or `=`, or has a
     /// blank or a control character of ASCII in it.
     BadList,
-    /// An option before it has the same character or name.
+    /// An option before it has one of its names.
     SameName,
 }
 
@@ -166,20 +167,20 @@ fn has_blank_or_control(name: &str) -> bool
 }
 
 // What is wrong with the character of an option.
-fn short_fault(name: Option<char>) -> Option<Reason>
+fn short_fault(name: char) -> Option<Reason>
     ensures { option_map reason_view result ≡ spec.short_fault name }
 {
     match name {
-        Some('-') => Some(Reason::DashName),
-        Some('\u{FFFD}') => Some(Reason::ReplacementInName),
-        Some('\0'..=' ' | '\x7F') => Some(Reason::BlankOrControlInName),
-        Some(_) | None => None,
+        '-' => Some(Reason::DashName),
+        '\u{FFFD}' => Some(Reason::ReplacementInName),
+        '\0'..=' ' | '\x7F' => Some(Reason::BlankOrControlInName),
+        _ => None,
     }
 }
 
-// What is wrong with a name.
-fn name_fault(name: &str) -> Option<Reason>
-    ensures { option_map reason_view result ≡ spec.long_fault (Some name.now) }
+// What is wrong with the long name of an option.
+fn long_fault(name: &str) -> Option<Reason>
+    ensures { option_map reason_view result ≡ spec.long_fault name.now }
 {
     if name.is_empty() {
         Some(Reason::EmptyName)
@@ -194,14 +195,35 @@ fn name_fault(name: &str) -> Option<Reason>
     }
 }
 
-// What is wrong with the name of an option, if it has one.
-fn long_fault(name: Option<&str>) -> Option<Reason>
-    ensures { option_map reason_view result ≡ spec.long_fault (option_map (λ n. n.now) name.entry) }
+// What is wrong with a character, a long name, or both.
+fn names_fault(names: Names<'_>) -> Option<Reason>
+    ensures { option_map reason_view result
+        ≡ spec.names_fault spec.name_fault (names_list names.entry) }
 {
-    match name {
-        Some(name) => name_fault(name),
-        None => None,
+    match names {
+        Names::Short(character) => short_fault(character),
+        Names::Long(name) => long_fault(name),
+        Names::Both(character, name) => match short_fault(character) {
+            Some(reason) => Some(reason),
+            None => long_fault(name),
+        },
     }
+}
+
+// What is wrong with the first name of an option that has a fault, further names included.
+fn all_names_fault<F, V, M, S>(option: &Declared<'_, F, V, M, S>) -> Option<Reason>
+    ensures { option_map reason_view result
+        ≡ spec.names_fault spec.name_fault (spec.all_names (option_view option.now)) }
+{
+    if let Some(reason) = names_fault(option.names) {
+        return Some(reason);
+    }
+    for names in option.aliases {
+        if let Some(reason) = names_fault(*names) {
+            return Some(reason);
+        }
+    }
+    None
 }
 
 // What is wrong with the placeholder of a value.
@@ -257,6 +279,26 @@ fn list_fault(words: Words<'_>) -> Option<Reason>
     }
 }
 
+// Whether an option has one of these names.
+fn has_one_of<F, V, M, S>(option: &Declared<'_, F, V, M, S>, names: Names<'_>) -> bool
+    ensures { result
+        ≡ spec.share (names_list names.entry) (spec.all_names (option_view option.now)) }
+{
+    names.shares(option.names) || has_alias(option, names)
+}
+
+// Whether a further name of an option is a name of the other.
+fn shares_alias<F, V, M, S>(
+    option: &Declared<'_, F, V, M, S>,
+    other: &Declared<'_, F, V, M, S>,
+) -> bool
+    ensures { result
+        ≡ list_any (λ a. spec.share (names_list a) (spec.all_names (option_view other.now)))
+        option.now.aliases.now }
+{
+    option.aliases.iter().any(|names| has_one_of(other, *names))
+}
+
 // Whether two options have a name in common.
 fn shares_name<F, V, M, S>(
     option: &Declared<'_, F, V, M, S>,
@@ -264,15 +306,7 @@ fn shares_name<F, V, M, S>(
 ) -> bool
     ensures { result ≡ spec.shares_name (option_view option.now) (option_view other.now) }
 {
-    let short = match option.names.short() {
-        Some(character) => other.names.is_short(character),
-        None => false,
-    };
-    let long = match option.names.long() {
-        Some(name) => other.names.is_long(name),
-        None => false,
-    };
-    short || long
+    has_one_of(other, option.names) || shares_alias(option, other)
 }
 
 // Whether an option has a name in common with one of these.
@@ -294,10 +328,7 @@ fn fault<F, V, M, S>(
     ensures { option_map reason_view result
         ≡ spec.fault (map option_view before.now) (option_view option.now) }
 {
-    if let Some(reason) = short_fault(option.names.short()) {
-        return Some(reason);
-    }
-    if let Some(reason) = long_fault(option.names.long()) {
+    if let Some(reason) = all_names_fault(option) {
         return Some(reason);
     }
     if let Some(reason) = placeholder_fault(option.kind.arity()) {

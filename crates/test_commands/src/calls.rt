@@ -1,10 +1,11 @@
-//! Each public call of `Commands`, the calls for leading options, and the words, the variable and
+//! Each public call of `Commands`, the calls for lines with a rest, and the words, the variable and
 //! `COLUMNS` of an environment.
 use crate::git::{Flag, Task, Value, git};
-use lexopt_commands::{
-    Command, CommandLine, Commands, Leading, Step, complete_leading, declare_commands, read_leading,
+use lexopt_commands::{Command, CommandLine, Commands, Step, declare_commands};
+use lexopt_options::{
+    Declaration, Line, Mistake, Names, Options, OsString, Refused, Request, complete_rest, declare,
+    read_rest,
 };
-use lexopt_options::{Declaration, Mistake, Names, Options, OsString, Refused, Request, declare};
 use std::alloc::{AllocError, Global};
 use std::convert::Infallible;
 use std::fmt::Debug;
@@ -18,11 +19,11 @@ enum Call {
     Read,
     Answer,
     Complete,
-    ReadLeading,
-    CompleteLeading,
+    ReadRest,
+    CompleteRest,
 }
 
-use Call::{Answer, Complete, CompleteLeading, Read, ReadLeading};
+use Call::{Answer, Complete, CompleteRest, Read, ReadRest};
 
 // At 30 columns the help of an entry begins at column 10.
 const HELP_AT_30: &str = "\
@@ -100,27 +101,27 @@ static ROWS: [(Call, &[u8], &str); 20] = [
     (Complete, b"--help -v", "-v\ttell more\n"),
     (Complete, b"--help x -v", ""),
     (
-        ReadLeading,
+        ReadRest,
         b"-vC x -- add -v",
         "[Flag(Verbose), Value(Directory, \"x\")], then [\"add\", \"-v\"]",
     ),
-    (ReadLeading, b"-h add", "Help"),
+    (ReadRest, b"-h add", "Help"),
     (
-        ReadLeading,
+        ReadRest,
         b"-v -C",
         "[Flag(Verbose)], then missing argument DIR for option '-C'",
     ),
-    (CompleteLeading, b"-v x y -", "Rest([\"x\", \"y\"])"),
+    (CompleteRest, b"-v x y -", "Rest([\"x\", \"y\"])"),
     (
-        CompleteLeading,
+        CompleteRest,
         b"-C a",
-        "Text { text: \"files\\n\", can_come_first: false }",
+        "Text { text: \"files\\n\", begins_rest: false }",
     ),
     (
-        CompleteLeading,
+        CompleteRest,
         b"-v --ver",
         "Text { text: \"--verbose\\ttell more\\n--version\\tprint the version and exit\\n\", \
-        can_come_first: true }",
+        begins_rest: true }",
     ),
 ];
 
@@ -172,22 +173,23 @@ pub fn text_of_step<K: Debug>(
     }
 }
 
-// What leading options mean, as `Debug` writes it, and the words after them; the request; or what
-// was read before the mistake, and its message.
-fn text_of_leading(alloc: Global, words: Vec<OsString>) -> Result<String, AllocError> {
-    match read_leading(alloc, &git().options(), words)? {
-        Leading::Parsed(parsed, rest) => format!(in alloc; "{parsed:?}, then {rest:?}"),
-        Leading::Asked(asked) => format!(in alloc; "{asked:?}"),
-        Leading::Refused(refused) => {
+// What a line with a rest means, as `Debug` writes it, and the rest; the request; or what was read
+// before the mistake, and its message.
+fn text_of_rest(alloc: Global, words: Vec<OsString>) -> Result<String, AllocError> {
+    let (line, rest) = read_rest(alloc, &git().options(), words)?;
+    match line {
+        Line::Parsed(parsed) => format!(in alloc; "{parsed:?}, then {rest:?}"),
+        Line::Asked(asked) => format!(in alloc; "{asked:?}"),
+        Line::Refused(refused) => {
             format!(in alloc; "{:?}, then {}", refused.before, refused.mistake)
         }
     }
 }
 
-// How the last of these words is completed among leading options, as `Debug` writes it.
+// How the last of these words is completed, as `Debug` writes it.
 fn text_of_completion(alloc: Global, mut words: Vec<OsString>) -> Result<String, AllocError> {
     let typed = words.pop().unwrap_or(OsString::new(alloc));
-    let completion = complete_leading(alloc, &git().options(), words, &typed)?;
+    let completion = complete_rest(alloc, &git().options(), words, &typed)?;
     format!(in alloc; "{completion:?}")
 }
 
@@ -201,8 +203,8 @@ fn text_of(alloc: Global, call: Call, line: &[u8]) -> Result<String, AllocError>
             let request = Request::new(alloc, Some(b"zsh_complete"), words);
             text_of_step(alloc, &git().answer_request(alloc, request, 30))
         }
-        ReadLeading => text_of_leading(alloc, words),
-        CompleteLeading => text_of_completion(alloc, words),
+        ReadRest => text_of_rest(alloc, words),
+        CompleteRest => text_of_completion(alloc, words),
     }
 }
 
@@ -212,26 +214,6 @@ fn rows(rt: HostRuntime) {
         let text = text_of(rt.alloc(), *call, line).expect(&rt, "memory");
         assert_eq!(rt; text.as_str(), *wanted, "{line:?}");
     }
-}
-
-static WRAP: Declaration<'static, Flag, Infallible, ()> = declare! {
-    program: "wrap",
-    options: [flag(Flag::Verbose, Names::Short('v'), "tell more")],
-    positionals: [once((), "COMMAND")],
-};
-
-// Whether the rest of a line has a declared positional, and the word after it.
-fn ignores_positionals(alloc: Global) -> Result<bool, AllocError> {
-    let words = words_of(alloc, b"-v a b")?;
-    match read_leading(alloc, &Options::new(&WRAP), words)? {
-        Leading::Parsed(parsed, rest) => Ok(parsed.len() == 1 && rest.len() == 2),
-        _ => Ok(false),
-    }
-}
-
-#[test]
-fn leading_options_before_a_declared_positional(rt: HostRuntime) {
-    assert!(rt; ignores_positionals(rt.alloc()).expect(&rt, "memory"));
 }
 
 // What the program does with these words of an environment, at the width of `COLUMNS`.

@@ -1,5 +1,5 @@
-//! Tests of declared commands: each public call once, what is read from an environment, and a command
-//! that has commands of its own.
+//! Tests of declared commands: each public call once, what is read from an environment, a command that
+//! has commands of its own, and a program that runs another one.
 #![tactic(auto)]
 
 #[cfg(test)]
@@ -8,3 +8,5 @@ mod calls;
 mod git;
 #[cfg(test)]
 mod levels;
+#[cfg(test)]
+mod wrapped;

@@ -1,10 +1,10 @@
 -- Lines of any commands, by the clauses of `Commands::read` and `Commands::answer_request`.
-use Rattle.std.proofs.Common.{◌≡◌, ℕ, List, [], None, Some, string_bytes, sym, subst, ⊎_elim, inl, inr}
+use Rattle.std.proofs.Common.{append-nil, ◌≡◌, ◌∷◌, ℕ, List, [], None, Some, string_bytes, sym, subst, ⊎_elim, inl, inr}
 use Rattle.std.specs.declared.convert.Infallible.{Infallible}
 use Rattle.lexopt_options_spec.specs.Asking.{first_asked}
 use Rattle.lexopt_options_spec.specs.Declaration as spec
 use Rattle.lexopt_options_spec.specs.Declaration.{for_help, for_version}
-use Rattle.lexopt_options_spec.specs.Leading.{MeansLeading}
+use Rattle.lexopt_options_spec.specs.Rest.{MeansBefore, before_rest, without_rest}
 use Rattle.lexopt_options_spec.specs.Legal as legal
 use Rattle.lexopt_declaration.specs.Lookups.{help_names}
 use Rattle.lexopt_options.specs.declared.mistake.Mistake.{Mistake}
@@ -18,7 +18,8 @@ use Rattle.lexopt_options.specs.declared.request.Request.TheVariants as request
 use Rattle.lexopt_options.specs.Answers.{IsUnknownRequest}
 use Rattle.lexopt_options.specs.Declarations.{declaration_of, options_of}
 use Rattle.lexopt_options.specs.Keys.{AreParsedAs, asked_view}
-use Rattle.lexopt_commands.specs.LeadingLines.{IsLeadingRefused}
+use Rattle.lexopt_options.specs.declared.refused.Line.TheVariants as front
+use Rattle.lexopt_options.specs.RestLines.{IsRestRead, by_all, by_front, early}
 use Rattle.lexopt_commands.specs.declared.answer.Step.{Step}
 use Rattle.lexopt_commands.specs.declared.answer.Step.TheVariants as step
 use Rattle.lexopt_commands.specs.declared.command.Command.{Command}
@@ -29,24 +30,44 @@ use Rattle.lexopt_commands.specs.Answers.{IsAskedText, IsRequestStep, IsStep}
 use Rattle.lexopt_commands.specs.Completions.{IsPlaced, IsPlacedAfter, IsUnplaced, Place, at_help, in_command, nowhere, place}
 use Rattle.lexopt_commands.specs.Lines.{IsAfterOptions, IsCommandLine, IsLineAsking, IsLineOf, IsLineRead}
 use Rattle.lexopt_commands.specs.Mistakes.{IsMistake, unknown_command, missing_command}
-use Rattle.test_option_callers.specs.AnyCommands.{HaveMistake, IsAskedFor, IsNamed, IsVariable, LineTells, RequestTells, StepTells, TextTells}
+use Rattle.test_option_callers.specs.AnyCommands.{AskFirst, HaveMistake, IsAskedFor, IsNamed, IsVariable, LineTells, RefusedFirst, RequestTells, StepTells, TextTells}
 
 -- ---- a line that is read
 
 by_words : {C F V M S : Type 0} (o : Options F V Infallible M S) (commands : List (Command C)) (words : List (List ℕ)) (r : Refused F V Infallible M S) (m : Mistake) (l : List legal.Parsed) (rest : List (List ℕ))
-    → MeansLeading (declaration_of o) words l rest → first_asked (declaration_of o).options l ≡ None → AreParsedAs (options_of o) l r.before.items → IsMistake commands rest m → HaveMistake o commands words r m
+    → MeansBefore (declaration_of o) words l rest → first_asked (declaration_of o).options l ≡ None → AreParsedAs (options_of o) l r.before.items → IsMistake commands rest m → HaveMistake o commands words r m
 by_words o commands words r m l rest means none are (missing_command names is named) = ((l, rest, means, none, are, is), named)
 by_words o commands words r m l rest means none are (unknown_command word own hints is hinted) = ((l, rest, means, none, are, is), hinted)
+
+-- what general options mean, and the rest after them
+means_so : {F V M S : Type 0} (o : Options F V Infallible M S) (words rest : List (List ℕ)) (parsed : _) → IsRestRead o words rest (front.Parsed parsed)
+    → (l : List legal.Parsed) × MeansBefore (declaration_of o) words l rest × (first_asked (declaration_of o).options l ≡ None) × AreParsedAs (options_of o) l parsed.items
+means_so o words (word ∷ more) parsed (by_front before word2 more2 own split is) = (is.0, before_rest before word2 more2 split is.1, is.2, is.3)
+means_so o words [] parsed (by_all own none is) = (is.0, without_rest is.1, is.2, is.3)
+means_so o words [] parsed (early own is) = absurd is
+
+asks_so : {F V M S : Type 0} (o : Options F V Infallible M S) (words rest : List (List ℕ)) (asked : Asked) → IsRestRead o words rest (front.Asked asked) → AskFirst (declaration_of o) words (asked_view asked)
+asks_so o words (word ∷ more) asked (by_front before word2 more2 own split is) = (before, word2 ∷ more2, split.words_are, is)
+asks_so o words [] asked (by_all own none is) = (words, [], sym (append-nil words), is)
+asks_so o words [] asked (early own is) = (words, [], sym (append-nil words), is)
+
+refused_so : {F V M S : Type 0} (o : Options F V Infallible M S) (words rest : List (List ℕ)) (r : Refused F V Infallible M S) → IsRestRead o words rest (front.Refused r) → (r.program.now ≡ (declaration_of o).program) × (r.help ≡ help_names (options_of o)) × RefusedFirst o words r
+refused_so o words (word ∷ more) r (by_front before word2 more2 own split is) = (is.program, is.help, (before, word2 ∷ more2, split.words_are, is))
+refused_so o words [] r (by_all own none is) = (is.program, is.help, (words, [], sym (append-nil words), is))
+refused_so o words [] r (early own is) = (is.0.program, is.0.help, (words, [], sym (append-nil words), is.0))
 
 line_so : {C F V M S : Type 0} (c : Commands C F V M S) (words : List (List ℕ)) (it : CommandLine C F V M S) → IsLineRead c words it → LineTells c.options c.commands.now words it
 line_so c words (line.Command parsed name key own) is = ⊎_elim (λ no. absurd no)
     (λ (a : IsAfterOptions c words (line.Command parsed name key own)).
-    (a.read, a.rest, a.means, a.nothing, subst (λ x. AreParsedAs (options_of c.options) a.read x) (sym a.after.0) a.are, a.after.1)) is
-line_so c words (line.Asked asked) is = ⊎_elim (λ by. inl by)
-    (λ (a : IsAfterOptions c words (line.Asked asked)). inr (a.after.1, a.parsed, (a.read, a.rest, a.means, a.nothing, a.are, a.after.0))) is
-line_so c words (line.Refused r) is = ⊎_elim (λ (by : IsLeadingRefused c.options words r). (by.program, by.help, inl by))
+    let m = means_so c.options words a.rest a.parsed a.read in
+    (m.0, a.rest, m.1, m.2, subst (λ x. AreParsedAs (options_of c.options) m.0 x) (sym a.after.0) m.3, a.after.1)) is
+line_so c words (line.Asked asked) is = ⊎_elim (λ by. inl (asks_so c.options words by.0 asked by.1))
+    (λ (a : IsAfterOptions c words (line.Asked asked)).
+    let m = means_so c.options words a.rest a.parsed a.read in inr (a.after.1, a.parsed.items, (m.0, a.rest, m.1, m.2, m.3, a.after.0))) is
+line_so c words (line.Refused r) is = ⊎_elim (λ by. let own = refused_so c.options words by.0 r by.1 in (own.0, own.1, inl own.2))
     (λ (a : IsAfterOptions c words (line.Refused r)).
-    (a.after.program, a.after.help, inr (by_words c.options c.commands.now words r r.mistake a.read a.rest a.means a.nothing (subst (λ x. AreParsedAs (options_of c.options) a.read x) (sym a.after.before) a.are) a.after.told))) is
+    let m = means_so c.options words a.rest a.parsed a.read in
+    (a.after.program, a.after.help, inr (by_words c.options c.commands.now words r r.mistake m.0 a.rest m.1 m.2 (subst (λ x. AreParsedAs (options_of c.options) m.0 x) (sym a.after.before) m.3) a.after.told))) is
 
 pub line_tells : {C F V M S : Type 0} (c : Commands C F V M S) (o : Options F V Infallible M S) (commands : List (Command C)) (words : List (List ℕ)) (it : CommandLine C F V M S)
     → c.options ≡ o → c.commands.now ≡ commands → IsLineRead c words it → LineTells o commands words it
@@ -100,7 +121,7 @@ request_so : {C F V M S : Type 0} (c : Commands C F V M S) (before : List (Parse
     → IsRequestStep c before asked width it → RequestTells c.options c.commands.now before asked width it
 request_so c before (request.Line words) width it is = step_so c before words.items width it is
 request_so c before (request.Completion words typed) width (step.Command key path call) is = ⊎_elim
-    (λ (after : IsPlacedAfter c words.items typed (step.Command key path call)). without_options (place c.commands.now after.rest) after.placed)
+    (λ (after : IsPlacedAfter c words.items typed (step.Command key path call)). without_options (place c.commands.now (after.word ∷ after.more)) after.placed)
     (λ (un : IsUnplaced c words.items typed (step.Command key path call)). absurd un.printed)
     is
   where

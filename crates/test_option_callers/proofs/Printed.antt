@@ -37,8 +37,8 @@ same_count count.AtLeastOnce = refl
 -- the tool with these counts
 abbrev pub made : ℕ → List ℕ → spec.Count → spec.Count → List (List ℕ) → spec.Declaration
 made character help first second values = record (small_tool character help count.Once count.Once values) {
-  positionals = record { placeholder = codes "FROM"; count = first; help = help; words = spec.directories }
-      ∷ record { placeholder = codes "TO"; count = second; help = help; words = spec.listed values } ∷ [];
+  positionals = record { placeholder = codes "FROM"; count = first; help = help; words = spec.directories; hides_list = false }
+      ∷ record { placeholder = codes "TO"; count = second; help = help; words = spec.listed values; hides_list = false } ∷ [];
 }
 
 pub same_tool : (character : ℕ) (help : List ℕ) (first second : Count) (values : List (List ℕ))
@@ -77,7 +77,7 @@ twice : (help : List ℕ) (first second : Count) (values : List (List ℕ)) (ind
 twice help first second values zero is = let no : zero ≡ suc zero = is.before in cc
 twice help first second values (suc zero) is =
     let more : may_repeat (count_of second) ≡ true = ap (λ (o : Option spec.Positional). unwrap_or (option_map (λ (p : spec.Positional). may_repeat p.count) o) false) is.here ∙ is.repeats in
-    let one : repeats first ≡ true = before_it (record { placeholder = codes "FROM"; count = spec.once; help = help; words = spec.directories }) first is.before in
+    let one : repeats first ≡ true = before_it (record { placeholder = codes "FROM"; count = spec.once; help = help; words = spec.directories; hides_list = false }) first is.before in
     (refl, ap (λ (b : Bool). b && repeats second) one ∙ itself second more)
 twice help first second values (suc (suc index)) is = let no : None ≡ Some is.positional = is.here in cc
 

@@ -5,10 +5,7 @@ use Rattle.std.specs.List.{AllZip}
 use Rattle.std.proofs.lemmas.Option.{slice_get-map}
 use Rattle.lexopt_options_spec.specs.Declaration.{Declaration, Declared as SpecDeclared, for_help, for_version}
 use Rattle.lexopt_options_spec.specs.Asking.{AskFor, first_asked, parsed_before}
-use Rattle.lexopt_options_spec.specs.Leading.{AsksLeading, LeadingStopsAt, MeansLeading}
-use Rattle.lexopt_commands.specs.declared.leading.Leading.{Leading}
-use Rattle.lexopt_commands.specs.declared.leading.Leading.TheVariants as leading
-use Rattle.lexopt_commands.specs.LeadingLines.{IsLeadingOf, IsLeadingRead}
+use Rattle.lexopt_options.specs.RestLines.{IsRestOf}
 use Rattle.lexopt_options_spec.specs.Legal as legal
 use Rattle.lexopt_options_spec.specs.Legal.{Means}
 use Rattle.lexopt_options_spec.specs.Places.{ArePlaces}
@@ -38,7 +35,7 @@ use Rattle.test_option_callers.specs.declared.declared.Value.{Value}
 use Rattle.test_option_callers.specs.declared.declared.Maybe.{Maybe}
 use Rattle.test_option_callers.specs.declared.declared.Values.{Values}
 use Rattle.test_option_callers.specs.declared.declared.Word.{Word}
-use Rattle.test_option_callers.specs.Tool.{LeadingStopped, LeadingTells, ToolLeading, AreKeyed, AreTold, HasNames, IsByKey, LineTells, Stopped, StoppedBy, ToolLine, ToolRefused, ToolMeans, read_keys, tool, tool_options, word_keys}
+use Rattle.test_option_callers.specs.Tool.{RestTells, AreKeyed, AreTold, HasNames, IsByKey, LineTells, Stopped, StoppedBy, ToolLine, ToolRefused, ToolMeans, read_keys, tool, tool_options, word_keys}
 
 told : (options : List (Declared Flag Value Maybe Values)) (s : legal.Parsed) (own : Parsed Flag Value Word Maybe Values) → IsParsedAs options s own → IsByKey s own
 told options s (parsed.Flag key) is = (is.0, is.1)
@@ -134,24 +131,10 @@ line_tells o l (line.Asked asked.Help) its is = subst (λ (d : Declaration). fir
 line_tells o l (line.Asked (asked.Version text)) its is = subst (λ (d : Declaration). first_asked d.options l ≡ Some (for_version text.now)) its.view is
 line_tells o l (line.Refused r) its is = is
 
--- ---- leading options
+-- ---- a line with a rest
 
-pub leading_is : (o : Options Flag Value Word Maybe Values) (words : List (List ℕ)) (l : Leading Flag Value Word Maybe Values) → AreOfTool o → IsLeadingRead o words l → ToolLeading words l
-leading_is o words (leading.Parsed own rest) its is =
-    (is.0, subst (λ (d : Declaration). MeansLeading d words is.0 rest.items) its.view is.1, subst (λ (d : Declaration). first_asked d.options is.0 ≡ None) its.view is.2, are_told (options_of o) is.0 own.items is.3)
-leading_is o words (leading.Asked asked.Help) its is = subst (λ (d : Declaration). AsksLeading d words for_help) its.view is
-leading_is o words (leading.Asked (asked.Version text)) its is = subst (λ (d : Declaration). AsksLeading d words (for_version text.now)) its.view is
-leading_is o words (leading.Refused r) its is =
-    let before : AreTold (parsed_before is.why is.read) r.before.items = are_told (options_of o) _ _ is.before in
-    let own : first_asked tool_options (parsed_before is.why is.read) ≡ None = subst (λ (d : Declaration). first_asked d.options (parsed_before is.why is.read) ≡ None) its.view is.own in
-    let stops : LeadingStopsAt tool words is.read is.why = subst (λ (d : Declaration). LeadingStopsAt d words is.read is.why) its.view is.stops in (
-      is.program ∙ ap (λ (d : Declaration). d.program) its.view,
-      stopped_by (LeadingStopped words r.before.items) r.mistake is.why (subst (λ (d : Declaration). IsMistake d r.mistake is.why) its.view is.told) (is.read, stops, own, before),
-    )
-
-pub leading_tells : (o : Options Flag Value Word Maybe Values) (l : List legal.Parsed) (rest : List (List ℕ)) (leads : Leading Flag Value Word Maybe Values) → AreOfTool o → IsLeadingOf o l rest leads
-    → LeadingTells l rest leads
-leading_tells o l rest (leading.Parsed own others) its is = (subst (λ (d : Declaration). first_asked d.options l ≡ None) its.view is.0, are_told (options_of o) l own.items is.1, is.2)
-leading_tells o l rest (leading.Asked asked.Help) its is = subst (λ (d : Declaration). first_asked d.options l ≡ Some for_help) its.view is
-leading_tells o l rest (leading.Asked (asked.Version text)) its is = subst (λ (d : Declaration). first_asked d.options l ≡ Some (for_version text.now)) its.view is
-leading_tells o l rest (leading.Refused r) its is = is
+pub rest_tells : (o : Options Flag Value Word Maybe Values) (l : List legal.Parsed) (rest others : List (List ℕ)) (own : Line Flag Value Word Maybe Values) → AreOfTool o → IsRestOf o l rest others own → RestTells l rest others own
+rest_tells o l rest others (line.Parsed own) its is = (line_tells o l (line.Parsed own) its is.0, is.1)
+rest_tells o l rest others (line.Asked asked.Help) its is = line_tells o l (line.Asked asked.Help) its is
+rest_tells o l rest others (line.Asked (asked.Version text)) its is = line_tells o l (line.Asked (asked.Version text)) its is
+rest_tells o l rest others (line.Refused r) its is = absurd is

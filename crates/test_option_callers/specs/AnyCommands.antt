@@ -7,7 +7,8 @@ use Rattle.std.specs.declared.convert.Infallible.{Infallible}
 use Rattle.lexopt_options_spec.specs.Asking.{first_asked}
 use Rattle.lexopt_options_spec.specs.Declaration as spec
 use Rattle.lexopt_options_spec.specs.Declaration.{for_help, for_version}
-use Rattle.lexopt_options_spec.specs.Leading.{AsksLeading, MeansLeading}
+use Rattle.lexopt_options_spec.specs.Asking as asking
+use Rattle.lexopt_options_spec.specs.Rest.{MeansBefore}
 use Rattle.lexopt_options_spec.specs.Legal as legal
 use Rattle.lexopt_declaration.specs.declared.declaration.Declared.{Declared}
 use Rattle.lexopt_declaration.specs.Lookups.{help_names}
@@ -24,7 +25,7 @@ use Rattle.lexopt_options.specs.declared.request.Request.TheVariants as request
 use Rattle.lexopt_options.specs.Answers.{script_lines}
 use Rattle.lexopt_options.specs.Declarations.{declaration_of, options_of}
 use Rattle.lexopt_options.specs.Keys.{AreParsedAs, asked_view}
-use Rattle.lexopt_commands.specs.LeadingLines.{IsLeadingRefused}
+use Rattle.lexopt_options.specs.Lines.{IsRefused}
 use Rattle.lexopt_commands.specs.declared.answer.Step.{Step}
 use Rattle.lexopt_commands.specs.declared.answer.Step.TheVariants as step
 use Rattle.lexopt_commands.specs.declared.call.Call.{Call}
@@ -41,7 +42,7 @@ use Rattle.lexopt_commands.specs.Mistakes.{IsHint}
 abbrev pub MeanSo : {C F V M S : Type 0} → Options F V Infallible M S → List (Command C) → List (List ℕ)
     → List (Parsed F V Infallible M S) → Meaning C → Type 0
 MeanSo o commands words parsed what = (l : List legal.Parsed) × (rest : List (List ℕ))
-    × MeansLeading (declaration_of o) words l rest
+    × MeansBefore (declaration_of o) words l rest
     × (first_asked (declaration_of o).options l ≡ None) × AreParsedAs (options_of o) l parsed
     × (meaning commands rest ≡ what)
 
@@ -56,17 +57,28 @@ HaveMistake o commands words r (mistake.UnknownCommand word rest hints) =
     × IsHint commands word (map (λ hint. hint.now) hints.items)
 HaveMistake o commands words r m = ⊥
 
+-- the first of the words, or all of them, ask for this before any mistake
+abbrev pub AskFirst : spec.Declaration → List (List ℕ) → spec.Asked → Type 0
+AskFirst d words asked = (front : List (List ℕ)) × (more : List (List ℕ)) × (words ≡ front ++ more)
+    × asking.AskFor d front asked
+
+-- the reading of the first of the words, or of all of them, stops so
+abbrev pub RefusedFirst : {F V M S : Type 0} → Options F V Infallible M S → List (List ℕ)
+    → Refused F V Infallible M S → Type 0
+RefusedFirst o words r = (front : List (List ℕ)) × (more : List (List ℕ)) × (words ≡ front ++ more)
+    × IsRefused o front r
+
 abbrev pub LineTells : {C F V M S : Type 0} → Options F V Infallible M S → List (Command C)
     → List (List ℕ) → CommandLine C F V M S → Type 0
 LineTells o commands words (line.Command parsed name key own) =
     MeanSo o commands words parsed.items (command name.now key own.items)
 LineTells o commands words (line.Asked asked) =
-    AsksLeading (declaration_of o) words (asked_view asked)
+    AskFirst (declaration_of o) words (asked_view asked)
     ⊎ ((asked ≡ asks.Help) × (parsed : List (Parsed _ _ _ _ _))
     × MeanSo o commands words parsed help)
 LineTells o commands words (line.Refused r) = (r.program.now ≡ (declaration_of o).program)
     × (r.help ≡ help_names (options_of o))
-    × (IsLeadingRefused o words r ⊎ HaveMistake o commands words r r.mistake)
+    × (RefusedFirst o words r ⊎ HaveMistake o commands words r r.mistake)
 
 -- the line asks for this
 abbrev pub IsAskedFor : {C F V M S : Type 0} → spec.Asked → CommandLine C F V M S → Type 0

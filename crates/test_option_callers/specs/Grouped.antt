@@ -14,6 +14,7 @@ abbrev pub grouped : Declaration
 grouped = record {
   program = codes "tool";
   about = codes "Works.";
+  usage = codes "FILE" ∷ codes "--quiet" ∷ [];
   options = grouped_options;
   positionals = [];
   epilogue = [];

@@ -162,6 +162,23 @@ report_line r = r.program.now
 
 -- ---- two options that cannot be declared
 
+-- an option of one value, which is in this list
+abbrev pub listed_option : List ℕ → List (List ℕ) → spec.Declared
+listed_option placeholder values = record {
+  short_name = Some 118;
+  long_name = Some (codes "verbose");
+  kind = one;
+  placeholder = placeholder;
+  help = [];
+  asks = None;
+  heading = [];
+  hidden = false;
+  required = false;
+  words = spec.listed values;
+  hides_list = false;
+  aliases = [];
+}
+
 abbrev pub two_options : ℕ → List ℕ → List ℕ → List (List ℕ) → List spec.Declared
 two_options character name placeholder values = record {
   short_name = Some character;
@@ -170,22 +187,13 @@ two_options character name placeholder values = record {
   placeholder = [];
   help = [];
   asks = None;
+  heading = [];
   hidden = false;
   required = false;
   words = spec.files;
-}
-    ∷ record {
-      short_name = Some 118;
-      long_name = Some (codes "verbose");
-      kind = one;
-      placeholder = placeholder;
-      help = [];
-      asks = None;
-      hidden = false;
-      required = false;
-      words = spec.listed values;
-    }
-    ∷ []
+  hides_list = false;
+  aliases = [];
+} ∷ listed_option placeholder values ∷ []
 
 abbrev pub reason_of : Reason → spec.Reason
 reason_of reason.DashName = spec.dash_name
@@ -232,9 +240,12 @@ one_option character help = record {
   placeholder = [];
   help = help;
   asks = None;
+  heading = [];
   hidden = false;
   required = false;
   words = spec.files;
+  hides_list = false;
+  aliases = [];
 }
     ∷ []
 
@@ -250,12 +261,14 @@ two_words help first second values = record {
   count = count_of first;
   help = help;
   words = spec.directories;
+  hides_list = false;
 }
     ∷ record {
       placeholder = codes "TO";
       count = count_of second;
       help = help;
       words = spec.listed values;
+      hides_list = false;
     }
     ∷ []
 
@@ -263,6 +276,7 @@ abbrev pub small_tool : ℕ → List ℕ → Count → Count → List (List ℕ)
 small_tool character help first second values = record {
   program = codes "small";
   about = [];
+  usage = [];
   options = one_option character help;
   positionals = two_words help first second values;
   epilogue = [];

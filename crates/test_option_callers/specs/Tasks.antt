@@ -1,15 +1,14 @@
 -- What lines of three commands mean, what completes a word, and what the help shows, by plain data.
 use Rattle.std.specs.Prelude.{◌≡◌, ◌⊎◌, ◌++◌, ℕ, if◌then◌else◌, nat_eq, List, [], ◌∷◌}
-use Rattle.std.specs.Prelude.{Option, None, Vec, codes, map, string_bytes}
+use Rattle.std.specs.Prelude.{Option, Vec, codes, false, map, string_bytes}
 use Rattle.std.specs.Global.{Global}
 use Rattle.std.specs.List.{AllZip, concat, flat_map, starts_with}
 use Rattle.std.specs.declared.convert.Infallible.{Infallible}
-use Rattle.lexopt_options_spec.specs.Asking.{first_asked}
 use Rattle.lexopt_options_spec.specs.Declaration.{Count, Declaration, Positional, any_number, files}
 use Rattle.lexopt_options_spec.specs.Declaration.{once}
-use Rattle.lexopt_options_spec.specs.Help.{IsEntry, IsParagraph, IsUsage, label}
-use Rattle.lexopt_options_spec.specs.Help.{set_apart, visible, with_list}
-use Rattle.lexopt_options_spec.specs.Leading.{MeansLeading}
+use Rattle.lexopt_options_spec.specs.Help.{IsEntry, IsOption, IsParagraph, IsUsage}
+use Rattle.lexopt_options_spec.specs.Help.{options_part, set_apart, visible}
+use Rattle.lexopt_options_spec.specs.Rest.{IsSplit}
 use Rattle.lexopt_options_spec.specs.Legal as legal
 use Rattle.lexopt_options_spec.specs.Nearest.{IsNearest, hinted_names}
 use Rattle.lexopt_declaration.specs.declared.declaration.Declared.{Declared}
@@ -99,10 +98,9 @@ task_lines = (codes "add", codes "+add\tadd files\n")
     ∷ (codes "remote", codes "+remote\tadd or remove a remote\n")
     ∷ (codes "help", codes "+help\tprint the help of a command\n") ∷ []
 
--- the words and then this name are general options without a request, and the name
+-- the words are general options, and this name after them would be a positional
 abbrev pub CanCome : Declaration → List (List ℕ) → List ℕ → Type 0
-CanCome d words name = (l : List legal.Parsed) × MeansLeading d (words ++ name ∷ []) l (name ∷ [])
-    × (first_asked d.options l ≡ None)
+CanCome d words name = IsSplit d (words ++ name ∷ []) words name []
 
 abbrev pub IsLineOf : Declaration → List (List ℕ) → List ℕ → List ℕ × List ℕ → List ℕ → Type 0
 IsLineOf d words typed p line = (CanCome d words p.0 × (line ≡ begun typed p))
@@ -125,6 +123,7 @@ shown placeholder count = record {
   count = count;
   help = [];
   words = files;
+  hides_list = false;
 }
 
 -- the parts of the help, with an entry for each command before those of the options
@@ -139,8 +138,7 @@ pub record IsTaskHelp (d : Declaration) (width : ℕ) (text : List ℕ) : Type 0
   }) usage
   pub about_next : IsParagraph width d.about about
   pub each_command : AllZip (λ p. IsEntry width p.0 p.1) task_helps commands
-  pub each_option :
-      AllZip (λ o. IsEntry width (label o) (with_list o.help o.words)) (visible d.options) options
+  pub each_option : AllZip (IsOption width) (visible d.options) options
   pub each_paragraph : AllZip (IsParagraph width) d.epilogue epilogue
-  pub written : text ≡ usage ++ about ++ set_apart (concat commands) ++ set_apart (concat options)
-      ++ flat_map set_apart epilogue
+  pub written : text ≡ usage ++ about ++ set_apart (concat commands)
+      ++ options_part (concat options) ++ flat_map set_apart epilogue

@@ -24,7 +24,6 @@ use Rattle.lexopt_options_spec.specs.Completion as completion
 use Rattle.lexopt_options_spec.specs.Completion.{AreOwnersIn, Completes, HasRole, IsJoined}
 use Rattle.lexopt_options_spec.specs.Completion.{offered_values}
 use Rattle.lexopt_options_spec.specs.Help.{IsHelp, Line as HelpLine, Wraps, below}
-use Rattle.lexopt_options_spec.specs.Leading.{AsksLeading, LeadingStopsAt, MeansLeading}
 use Rattle.lexopt_options_spec.specs.Legal as legal
 use Rattle.lexopt_options_spec.specs.Legal.{Means}
 use Rattle.lexopt_options_spec.specs.Nearest.{IsHint}
@@ -36,8 +35,6 @@ use Rattle.lexopt_options.specs.declared.answer.Answer.TheVariants as answer
 use Rattle.lexopt_options.specs.declared.complete.Joined.{Joined}
 use Rattle.lexopt_options.specs.declared.complete.Role.{Role}
 use Rattle.lexopt_options.specs.declared.complete.Role.TheVariants as role
-use Rattle.lexopt_commands.specs.declared.leading.Leading.{Leading}
-use Rattle.lexopt_commands.specs.declared.leading.Leading.TheVariants as leading
 use Rattle.lexopt_options.specs.declared.mistake.Mistake.{Mistake}
 use Rattle.lexopt_options.specs.declared.mistake.Mistake.TheVariants as mistake
 use Rattle.lexopt_options.specs.declared.mistake.OptionName.TheVariants as name
@@ -57,7 +54,8 @@ use Rattle.test_option_callers.specs.declared.declared.Values.{Values}
 use Rattle.test_option_callers.specs.declared.declared.Word.{Word}
 use Rattle.test_option_callers.specs.declared.declared.Word.TheVariants.{From, To, More}
 
--- an option that is no request, neither hidden nor required, and whose values are files
+-- an option that is no request, neither hidden nor required, without a heading, and whose values
+-- are files
 abbrev pub plain : Option ℕ → Option (List ℕ) → Kind → List ℕ → List ℕ → Declared
 plain c name kind placeholder help = record {
   short_name = c;
@@ -66,17 +64,25 @@ plain c name kind placeholder help = record {
   placeholder = placeholder;
   help = help;
   asks = None;
+  heading = [];
   hidden = false;
   required = false;
   words = files;
+  hides_list = false;
+  aliases = [];
 }
 
 abbrev pub tool_options : List Declared
 tool_options = plain (Some 118) (Some (codes "verbose")) flag [] (codes "tell more")
-    ∷ record (plain (Some 102) None flag [] (codes "by force")) { hidden = true }
+    ∷ record (plain (Some 102) None flag [] (codes "by force")) {
+      heading = codes "Danger";
+      hidden = true;
+    }
     ∷ plain (Some 111) (Some (codes "output")) one (codes "FILE") (codes "write there")
     ∷ record (plain None (Some (codes "color")) optional (codes "WHEN") (codes "paint")) {
       words = listed (codes "always" ∷ codes "never" ∷ []);
+      hides_list = true;
+      aliases = long (codes "colour") ∷ [];
     }
     ∷ plain (Some 120) None several (codes "GLOB") (codes "leave out")
     ∷ record (plain (Some 104) (Some (codes "help")) flag [] (codes "help")) {
@@ -86,6 +92,7 @@ tool_options = plain (Some 118) (Some (codes "verbose")) flag [] (codes "tell mo
       asks = Some (for_version (codes "tool 1"));
     }
     ∷ record (plain (Some 117) (Some (codes "user")) one (codes "NAME") (codes "for whom")) {
+      heading = codes "Owners";
       required = true;
     }
     ∷ []
@@ -96,19 +103,29 @@ tool_positionals = record {
   count = once;
   help = codes "one";
   words = directories;
+  hides_list = false;
 }
     ∷ record {
       placeholder = codes "TO";
       count = at_most_once;
       help = codes "two";
       words = listed (codes "here" ∷ codes "there" ∷ []);
+      hides_list = true;
     }
-    ∷ record { placeholder = codes "MORE"; count = any_number; help = []; words = files } ∷ []
+    ∷ record {
+      placeholder = codes "MORE";
+      count = any_number;
+      help = [];
+      words = files;
+      hides_list = false;
+    }
+    ∷ []
 
 abbrev pub tool : Declaration
 tool = record {
   program = codes "tool";
   about = codes "Works.";
+  usage = [];
   options = tool_options;
   positionals = tool_positionals;
   epilogue = codes "End." ∷ [];
@@ -222,38 +239,13 @@ LineTells l (line.Asked (asked.Version text)) =
     first_asked tool_options l ≡ Some (for_version text.now)
 LineTells l (line.Refused refused) = ⊥
 
--- ---- leading options
+-- ---- a line with a rest
 
--- the words are a list without a request, by the keys, and this tail
-abbrev pub ToolLeads : List (List ℕ) → List (Parsed Flag Value Word Maybe Values) → List (List ℕ)
-    → Type 0
-ToolLeads words own rest = (l : List legal.Parsed) × MeansLeading tool words l rest
-    × (first_asked tool_options l ≡ None) × AreTold l own
-
--- the reading of the leading options stops at this mistake
-abbrev pub LeadingStopped : List (List ℕ) → List (Parsed Flag Value Word Maybe Values)
-    → stops.Mistake → Type 0
-LeadingStopped words before why = (read : List legal.Parsed) × LeadingStopsAt tool words read why
-    × (first_asked tool_options (parsed_before why read) ≡ None)
-    × AreTold (parsed_before why read) before
-
-abbrev pub ToolLeading : List (List ℕ) → Leading Flag Value Word Maybe Values → Type 0
-ToolLeading words (leading.Parsed own rest) = ToolLeads words own.items rest.items
-ToolLeading words (leading.Asked asked.Help) = AsksLeading tool words for_help
-ToolLeading words (leading.Asked (asked.Version text)) =
-    AsksLeading tool words (for_version text.now)
-ToolLeading words (leading.Refused r) = (r.program.now ≡ codes "tool")
-    × StoppedBy (LeadingStopped words r.before.items) r.mistake
-
--- the options are this list by the keys, and this tail, or the first request of the list
-abbrev pub LeadingTells : List legal.Parsed → List (List ℕ) → Leading Flag Value Word Maybe Values
-    → Type 0
-LeadingTells l rest (leading.Parsed own others) = (first_asked tool_options l ≡ None)
-    × AreTold l own.items × (others.items ≡ rest)
-LeadingTells l rest (leading.Asked asked.Help) = first_asked tool_options l ≡ Some for_help
-LeadingTells l rest (leading.Asked (asked.Version text)) =
-    first_asked tool_options l ≡ Some (for_version text.now)
-LeadingTells l rest (leading.Refused refused) = ⊥
+-- the line tells that it is this list, and this is its rest; or it tells what the list asks for
+abbrev pub RestTells : List legal.Parsed → List (List ℕ) → List (List ℕ)
+    → Line Flag Value Word Maybe Values → Type 0
+RestTells l rest others (line.Parsed own) = LineTells l (line.Parsed own) × (others ≡ rest)
+RestTells l rest others own = LineTells l own
 
 -- ---- completion of a typed word
 

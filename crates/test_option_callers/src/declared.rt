@@ -8,17 +8,16 @@ ghost use Rattle.lexopt_options_spec.specs.Completion.{AreOwnersIn, Completes, H
 ghost use Rattle.lexopt_options_spec.specs.Completion.{offered_values};
 ghost use Rattle.lexopt_options_spec.specs.Declaration as spec;
 ghost use Rattle.lexopt_options_spec.specs.Help.{IsHelp};
-ghost use Rattle.lexopt_options_spec.specs.Leading.{MeansLeading};
+ghost use Rattle.lexopt_options_spec.specs.Rest.{MeansBefore};
 ghost use Rattle.lexopt_options_spec.specs.Legal as legal;
 ghost use Rattle.lexopt_options_spec.specs.Legal.{Means};
 ghost use Rattle.lexopt_items.specs.Items.{table_view};
 ghost use Rattle.test_option_callers.specs.Tool.{AreInOrder, IsAsked, IsSameJoined, IsSameRole};
-ghost use Rattle.test_option_callers.specs.Tool.{LeadingTells, ToolRequest, both_of, words_of};
-ghost use Rattle.test_option_callers.specs.Tool.{LineTells, ToolLeading};
+ghost use Rattle.test_option_callers.specs.Tool.{LineTells, RestTells, ToolRequest, both_of};
+ghost use Rattle.test_option_callers.specs.Tool.{words_of};
 ghost use Rattle.test_option_callers.specs.Tool.{IsToolUsage, ToolAnswer, ToolLine, tool};
 ghost use Rattle.test_option_callers.specs.Tool.{tool_options};
 
-use lexopt_commands::Leading;
 use lexopt_items::items::Table;
 use lexopt_option_table::table_of;
 use lexopt_options::{
@@ -74,70 +73,95 @@ pub enum Values {
 static TOOL: Declaration<'static, Flag, Value, Word, Maybe, Values> = Declaration {
     program: "tool",
     about: "Works.",
+    usage: &[],
     options: &[
         Declared {
             names: Names::Both('v', "verbose"),
             kind: Kind::Flag(Flag::Verbose),
             help: "tell more",
+            heading: "",
             hidden: false,
             required: false,
             words: Words::Files,
+            hides_list: false,
+            aliases: &[],
         },
         Declared {
             names: Names::Short('f'),
             kind: Kind::Flag(Flag::Force),
             help: "by force",
+            heading: "Danger",
             hidden: true,
             required: false,
             words: Words::Files,
+            hides_list: false,
+            aliases: &[],
         },
         Declared {
             names: Names::Both('o', "output"),
             kind: Kind::Value(Value::Output, "FILE"),
             help: "write there",
+            heading: "",
             hidden: false,
             required: false,
             words: Words::Files,
+            hides_list: false,
+            aliases: &[],
         },
         Declared {
             names: Names::Long("color"),
             kind: Kind::Maybe(Maybe::Color, "WHEN"),
             help: "paint",
+            heading: "",
             hidden: false,
             required: false,
             words: Words::Listed(&["always", "never"]),
+            hides_list: true,
+            aliases: &[Names::Long("colour")],
         },
         Declared {
             names: Names::Short('x'),
             kind: Kind::Values(Values::Exclude, "GLOB"),
             help: "leave out",
+            heading: "",
             hidden: false,
             required: false,
             words: Words::Files,
+            hides_list: false,
+            aliases: &[],
         },
         Declared {
             names: Names::Both('h', "help"),
             kind: Kind::Help,
             help: "help",
+            heading: "",
             hidden: false,
             required: false,
             words: Words::Files,
+            hides_list: false,
+            aliases: &[],
         },
         Declared {
             names: Names::Long("version"),
             kind: Kind::Version("tool 1"),
             help: "version",
+            heading: "",
             hidden: false,
             required: false,
             words: Words::Files,
+            hides_list: false,
+            aliases: &[],
         },
         Declared {
             names: Names::Both('u', "user"),
             kind: Kind::Value(Value::User, "NAME"),
             help: "for whom",
+            heading: "Owners",
             hidden: false,
             required: true,
             words: Words::Files,
+            hides_list: false,
+            aliases: &[],
         },
     ],
     positionals: &[
@@ -147,6 +171,7 @@ static TOOL: Declaration<'static, Flag, Value, Word, Maybe, Values> = Declaratio
             count: Count::Once,
             help: "one",
             words: Words::Directories,
+            hides_list: false,
         },
         Positional {
             key: Word::To,
@@ -154,6 +179,7 @@ static TOOL: Declaration<'static, Flag, Value, Word, Maybe, Values> = Declaratio
             count: Count::AtMostOnce,
             help: "two",
             words: Words::Listed(&["here", "there"]),
+            hides_list: true,
         },
         Positional {
             key: Word::More,
@@ -161,6 +187,7 @@ static TOOL: Declaration<'static, Flag, Value, Word, Maybe, Values> = Declaratio
             count: Count::AnyNumber,
             help: "",
             words: Words::Files,
+            hides_list: false,
         },
     ],
     epilogue: &["End."],
@@ -179,17 +206,21 @@ pub fn read_line(
     Options::new(&TOOL).read(alloc, words)
 }
 
-/// Reads the leading options of a line of the tool.
-pub fn read_leading(
+/// Reads a line of the tool that may have a rest.
+pub fn read_rest(
     alloc: Global,
     words: Vec<OsString>,
-) -> Result<Leading<'static, Flag, Value, Word, Maybe, Values>, AllocError>
-    ensures leading { IfOk result (λ leading. ToolLeading words.items leading) }
-    ensures answered { (l : List legal.Parsed) (rest : List (List ℕ))
-        → MeansLeading tool words.items l rest
-        → IfOk result (λ leading. LeadingTells l rest leading) }
+) -> Result<
+    (
+        Line<'static, Flag, Value, Word, Maybe, Values>,
+        Vec<OsString>,
+    ),
+    AllocError,
+>
+    ensures { (l : List legal.Parsed) (rest : List (List ℕ)) → MeansBefore tool words.items l rest
+        → IfOk result (λ found. RestTells l rest found.1.items found.0) }
 {
-    lexopt_commands::read_leading(alloc, &Options::new(&TOOL), words)
+    lexopt_options::read_rest(alloc, &Options::new(&TOOL), words)
 }
 
 /// What can complete a typed word after these words of a line of the tool.

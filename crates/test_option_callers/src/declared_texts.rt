@@ -3,15 +3,16 @@
 ghost use Rattle.std.specs.Prelude.{◌≡◌, ◌≢◌, IfOk, MatchResult, codes, map, string_bytes, true};
 ghost use Rattle.std.specs.Option.{MatchOption};
 ghost use Rattle.lexopt_options_spec.specs.Declaration.{is_sound};
+ghost use Rattle.lexopt_declaration.specs.Models.{option_view};
 ghost use Rattle.test_option_callers.specs.Printed.{IsErrorOf, IsFaultOf, IsUsageOf, declaration_line};
 ghost use Rattle.test_option_callers.specs.Printed.{IsErrorWith, IsUsageWith, names_line, refused_line};
-ghost use Rattle.test_option_callers.specs.Printed.{report_line, two_options};
+ghost use Rattle.test_option_callers.specs.Printed.{listed_option, report_line, two_options};
 ghost use Rattle.test_option_callers.specs.Texts.{error_line};
 
 use crate::declared::{Flag, Value, Word};
 use lexopt_commands::CommandError;
 use lexopt_options::{
-    Count, Declaration, Mistake, Names, Positional, Refused, Report, UsageError, Words,
+    Count, Declaration, Declared, Mistake, Names, Positional, Refused, Report, UsageError, Words,
     declare_option,
 };
 use lexopt_runtime_options::{DeclarationError, Reason, try_options};
@@ -72,13 +73,23 @@ pub fn report_status(report: &Report<'_>) -> u8
     report.status()
 }
 
+// An option of one value, which is in this list.
+fn listed_option<'a>(placeholder: &'a str, values: &'a [&'a str]) -> Declared<'a, Flag, Value>
+    ensures { let listed = map (λ value. value.now) values.now in
+        option_view result ≡ listed_option placeholder.now listed }
+{
+    declare_option!(value(Value::Output, Names::Both('v', "verbose"), placeholder, "").one_of(
+        values
+    ))
+}
+
 /// Declares two options, the second with a list of values. Returns the character of the first that
 /// cannot be declared, and the reason, or `None` if both can be declared together.
-pub fn fault_of_two(
+pub fn fault_of_two<'a>(
     character: char,
-    name: &str,
-    placeholder: &str,
-    values: &[&str],
+    name: &'a str,
+    placeholder: &'a str,
+    values: &'a [&'a str],
 ) -> Option<(char, Reason)>
     ensures { let listed = map (λ value. value.now) values.now in MatchOption result
         (is_sound (two_options character name.now placeholder.now listed) ≡ true)
@@ -86,13 +97,12 @@ pub fn fault_of_two(
 {
     let options = [
         declare_option!(flag(Flag::Verbose, Names::Both(character, name), "")),
-        declare_option!(value(Value::Output, Names::Both('v', "verbose"), placeholder, "").one_of(
-            values
-        )),
+        listed_option(placeholder, values),
     ];
     let declaration: Declaration<'_, Flag, Value> = Declaration {
         program: "",
         about: "",
+        usage: &[],
         options: &options,
         positionals: &[],
         epilogue: &[],
@@ -128,14 +138,14 @@ fn usage_or_error_of<'a>(
 
 /// Declares an option and two positionals, the second with a list of words. Returns the usage line
 /// if they can be declared together, and otherwise the text of the error.
-pub fn usage_or_error(
+pub fn usage_or_error<'a>(
     alloc: Global,
     width: usize,
     character: char,
-    help: &str,
+    help: &'a str,
     first: Count,
     second: Count,
-    values: &[&str],
+    values: &'a [&'a str],
 ) -> Result<Result<String, String>, AllocError>
     ensures { let listed = map (λ value. value.now) values.now in
         IfOk result (λ found. MatchResult found
@@ -150,6 +160,7 @@ pub fn usage_or_error(
             count: first,
             help,
             words: Words::Directories,
+            hides_list: false,
         },
         Positional {
             key: Word::To,
@@ -157,11 +168,13 @@ pub fn usage_or_error(
             count: second,
             help,
             words: Words::Listed(values),
+            hides_list: false,
         },
     ];
     let declaration: Declaration<'_, Flag, Value, Word> = Declaration {
         program: "small",
         about: "",
+        usage: &[],
         options: &options,
         positionals: &positionals,
         epilogue: &[],

@@ -11,6 +11,7 @@ use std::alloc::{AllocError, Global};
 static LEAD: Declaration<'static, Flag, Value> = declare! {
     program: "tool",
     about: "Works.",
+    usage: ["FILE", "--quiet"],
     options: [flag(Flag::Verbose, Names::Both('v', "verbose"), "tell more")],
 };
 

@@ -79,6 +79,7 @@ pub fn archive<'a>(
     Declaration {
         program: "archive",
         about: "Packs files.",
+        usage: &[],
         options,
         positionals,
         epilogue: &[],

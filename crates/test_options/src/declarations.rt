@@ -9,17 +9,20 @@ use std::alloc::{AllocError, Global};
 static MARKED: Archive<'static> = declare! {
     program: "archive",
     about: "Packs files.",
+    usage: ["SOURCE TARGET", "SOURCE... LAST"],
     options: [
-        flag(Flag::Verbose, Names::Both('v', "verbose"), "tell more"),
+        flag(Flag::Verbose, Names::Both('v', "verbose"), "tell more").heading("Output options"),
         value(Value::User, Names::Both('u', "user"), "NAME", "whose it is").text().required(),
-        maybe(Maybe::Backup, Names::Long("backup"), "DIR", "keep a copy").hidden().directories(),
+        maybe(Maybe::Backup, Names::Long("backup"), "DIR", "keep a copy")
+            .alias(Names::Short('b')).hidden().directories().alias(Names::Both('B', "back-up")),
         values(Values::Exclude, Names::Short('x'), "KIND", "not these")
-            .hidden().one_of(&["link", "pipe"]).required(),
+            .hidden().one_of(&["link", "pipe"]).heading("Input options").hide_list()
+            .alias(Names::Long("exclude")).required(),
         help(Names::Long("help")).hidden(),
         version(Names::Long("version"), "archive 1.0").required(),
     ],
     positionals: [
-        once(Word::Source, "SOURCE", "what to pack").one_of(&["a", "b"]),
+        once(Word::Source, "SOURCE", "what to pack").one_of(&["a", "b"]).hide_list(),
         at_most_once(Word::Target, "TARGET").directories(),
         any_number(Word::File, "FILE", "more of them").text(),
         at_least_once(Word::File, "LAST", "the last ones"),
@@ -30,54 +33,73 @@ static MARKED: Archive<'static> = declare! {
 static WRITTEN: Archive<'static> = Declaration {
     program: "archive",
     about: "Packs files.",
+    usage: &["SOURCE TARGET", "SOURCE... LAST"],
     options: &[
         Declared {
             names: Names::Both('v', "verbose"),
             kind: Kind::Flag(Flag::Verbose),
             help: "tell more",
+            heading: "Output options",
             hidden: false,
             required: false,
             words: Words::Files,
+            hides_list: false,
+            aliases: &[],
         },
         Declared {
             names: Names::Both('u', "user"),
             kind: Kind::Value(Value::User, "NAME"),
             help: "whose it is",
+            heading: "",
             hidden: false,
             required: true,
             words: Words::Text,
+            hides_list: false,
+            aliases: &[],
         },
         Declared {
             names: Names::Long("backup"),
             kind: Kind::Maybe(Maybe::Backup, "DIR"),
             help: "keep a copy",
+            heading: "",
             hidden: true,
             required: false,
             words: Words::Directories,
+            hides_list: false,
+            aliases: &[Names::Short('b'), Names::Both('B', "back-up")],
         },
         Declared {
             names: Names::Short('x'),
             kind: Kind::Values(Values::Exclude, "KIND"),
             help: "not these",
+            heading: "Input options",
             hidden: true,
             required: true,
             words: Words::Listed(&["link", "pipe"]),
+            hides_list: true,
+            aliases: &[Names::Long("exclude")],
         },
         Declared {
             names: Names::Long("help"),
             kind: Kind::Help,
             help: "print this help and exit",
+            heading: "",
             hidden: true,
             required: false,
             words: Words::Files,
+            hides_list: false,
+            aliases: &[],
         },
         Declared {
             names: Names::Long("version"),
             kind: Kind::Version("archive 1.0"),
             help: "print the version and exit",
+            heading: "",
             hidden: false,
             required: true,
             words: Words::Files,
+            hides_list: false,
+            aliases: &[],
         },
     ],
     positionals: &[
@@ -87,6 +109,7 @@ static WRITTEN: Archive<'static> = Declaration {
             count: Count::Once,
             help: "what to pack",
             words: Words::Listed(&["a", "b"]),
+            hides_list: true,
         },
         Positional {
             key: Word::Target,
@@ -94,6 +117,7 @@ static WRITTEN: Archive<'static> = Declaration {
             count: Count::AtMostOnce,
             help: "",
             words: Words::Directories,
+            hides_list: false,
         },
         Positional {
             key: Word::File,
@@ -101,6 +125,7 @@ static WRITTEN: Archive<'static> = Declaration {
             count: Count::AnyNumber,
             help: "more of them",
             words: Words::Text,
+            hides_list: false,
         },
         Positional {
             key: Word::File,
@@ -108,6 +133,7 @@ static WRITTEN: Archive<'static> = Declaration {
             count: Count::AtLeastOnce,
             help: "the last ones",
             words: Words::Files,
+            hides_list: false,
         },
     ],
     epilogue: &[],
@@ -119,7 +145,10 @@ fn is_as_written(alloc: Global) -> Result<bool, AllocError> {
     let exclude: ArchiveOption<'_> = declare_option!(
         values(Values::Exclude, Names::Short('x'), "KIND", "not these")
             .hidden()
+            .heading("Input options")
             .one_of(&["link", "pipe"])
+            .hide_list()
+            .alias(Names::Long("exclude"))
             .required()
     );
     let written = &WRITTEN.options[3];

@@ -1,7 +1,7 @@
 use Rattle.std.proofs.Common.{◌∙◌, List, ℕ, subst, string_bytes}
 use Rattle.std.specs.List.{AllZip}
 use Rattle.lexopt_options_spec.specs.Declaration as spec
-use Rattle.lexopt_options_spec.specs.Help.{IsEntry, IsParagraph, label, with_list, visible}
+use Rattle.lexopt_options_spec.specs.Help.{IsOption, IsParagraph, visible}
 use Rattle.lexopt_commands.proofs.Entries.{appended, in_parts}
 use Rattle.lexopt_commands.proofs.help.help_of.Goals as goal
 
@@ -10,10 +10,9 @@ returns g c =
     let width = c.args.width in
     let a = c.in_ok-push_paragraph.ensures in
     let cs = c.in_ok-entries.ensures in
-    let os = c.in_ok-declared.ensures in
+    let os = c.in_ok-push_options.ensures in
     let e = c.in_ok-push_epilogue.ensures in
     let commands = appended _ _ _ _ c.in_ok-push_apart.ensures (c.as_str.ensures.value ∙ cs.2) in
-    let options = appended _ _ _ _ c.in_ok-push_apart-2.ensures (c.as_str-2.ensures.value ∙ os.2) in
     record {
       usage = string_bytes c.in_ok-text.text;
       about = a.0;
@@ -23,7 +22,7 @@ returns g c =
       usage_first = c.in_ok-text.ensures;
       about_next = subst (λ content. IsParagraph width content a.0) c.about.ensures a.1;
       each_command = cs.1;
-      each_option = subst (λ (l : List spec.Declared). AllZip (λ (o : spec.Declared). IsEntry width (label o) (with_list o.help o.words)) (visible l) os.0) c.options.ensures.view os.1;
+      each_option = subst (λ (l : List spec.Declared). AllZip (IsOption width) (visible l) os.0) c.options.ensures.view os.1;
       each_paragraph = subst (λ (l : List (List ℕ)). AllZip (IsParagraph width) l e.0) c.epilogue.ensures e.1;
-      written = in_parts _ a.0 _ _ _ _ _ _ _ a.2 commands options e.2;
+      written = in_parts _ a.0 _ _ _ _ _ _ _ a.2 commands os.2 e.2;
     }

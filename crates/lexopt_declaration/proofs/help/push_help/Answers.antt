@@ -1,7 +1,7 @@
 use Rattle.std.proofs.Common.{◌≡◌, ◌++◌, ◌∙◌, List, ℕ, refl, ap, append_assoc}
 use Rattle.std.proofs.lemmas.Result.{IfOk-weaker}
 use Rattle.std.specs.List.{concat, flat_map}
-use Rattle.lexopt_options_spec.specs.Help.{set_apart}
+use Rattle.lexopt_options_spec.specs.Help.{options_part, set_apart}
 use Rattle.lexopt_declaration.proofs.help.push_help.Goals as goal
 
 appended : (old part text new : List ℕ) → new ≡ old ++ set_apart part → part ≡ text → new ≡ old ++ set_apart text
@@ -18,12 +18,11 @@ returns g c =
     let u = c.in_ok-push_usage.ensures in
     let a = c.in_ok-push_paragraph.ensures in
     let ps = c.in_ok-positionals.ensures in
-    let os = c.in_ok-options.ensures in
+    let os = c.in_ok-push_options.ensures in
     let positionals = appended _ _ _ _ c.in_ok-push_apart.ensures (c.as_str.ensures.value ∙ ps.2) in
-    let options = appended _ _ _ _ c.in_ok-push_apart-2.ensures (c.as_str-2.ensures.value ∙ os.2) in
     IfOk-weaker c.push_epilogue.result _ _
     (λ _ e. (
-      u.0 ++ a.0 ++ set_apart (concat ps.0) ++ set_apart (concat os.0) ++ flat_map set_apart e.0,
+      u.0 ++ a.0 ++ set_apart (concat ps.0) ++ options_part (concat os.0) ++ flat_map set_apart e.0,
       record {
         usage = u.0;
         about = a.0;
@@ -37,6 +36,6 @@ returns g c =
         each_paragraph = e.1;
         written = refl;
       },
-      in_parts _ u.0 a.0 _ _ _ _ _ _ _ _ u.2 a.2 positionals options e.2,
+      in_parts _ u.0 a.0 _ _ _ _ _ _ _ _ u.2 a.2 positionals os.2 e.2,
     ))
     c.push_epilogue.ensures

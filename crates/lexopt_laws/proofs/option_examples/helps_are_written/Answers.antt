@@ -1,8 +1,8 @@
 use Rattle.std.proofs.Common.{List, ℕ, [], ◌∷◌, ◌++◌, true, codes, refl, lit≤, lit<}
 use Rattle.bstr.proofs.Computing.{computing}
 use Rattle.lexopt_options_spec.specs.Help.{columns, label, with_list, IsParagraph, IsEntry, IsUsage}
-use Rattle.lexopt_laws.specs.Sample.{listed_mode, mode_in_list, verbose, output, backup, exclude, asks_for_help, sample, sample_options, files, described_files, mode, target}
-use Rattle.lexopt_laws.proofs.WorkedLines.{fits}
+use Rattle.lexopt_laws.specs.Sample.{listed_mode, mode_in_list, options_with_headings, verbose, output, backup, exclude, asks_for_help, sample, sample_options, files, described_files, mode, target}
+use Rattle.lexopt_laws.proofs.WorkedLines.{alone, fits, one_usage}
 use Rattle.lexopt_laws.proofs.option_examples.helps_are_written.Goals as goal
 
 verbose_entry : IsEntry 80 (label verbose) verbose.help (codes "  -v, --verbose         tell more\n")
@@ -39,36 +39,36 @@ help_entry = record {
 
 sample_usage : IsUsage 80 (record (sample (files ∷ []) true) { options = sample_options ++ asks_for_help ∷ [] }) (codes "Usage: example_archive [OPTION]... [FILE]...\n")
 unfolding columns computing
-sample_usage = record {
+sample_usage = one_usage (codes "example_archive [OPTION]... [FILE]...\n") (record {
   lines = (codes "example_archive" ∷ codes "[OPTION]..." ∷ codes "[FILE]..." ∷ []) ∷ [];
   wrapped = record { in_order = refl; fit = (fits (lit< tt) (lit≤ tt), tt); full = tt };
   written = refl;
-}
+}) refl
 
 usage_alone : (about : List ℕ) → IsUsage 80 (record (sample [] true) { options = []; about = about }) (codes "Usage: example_archive\n")
 unfolding columns computing
-usage_alone about = record { lines = (codes "example_archive" ∷ []) ∷ []; wrapped = record { in_order = refl; fit = (fits (lit< tt) (lit≤ tt), tt); full = tt }; written = refl }
+usage_alone about = one_usage (codes "example_archive\n") (record { lines = (codes "example_archive" ∷ []) ∷ []; wrapped = record { in_order = refl; fit = (fits (lit< tt) (lit≤ tt), tt); full = tt }; written = refl }) refl
 
 usage_of_positionals : IsUsage 80 (record (sample (mode ∷ target ∷ files ∷ []) true) { options = []; about = [] }) (codes "Usage: example_archive MODE [TARGET] [FILE]...\n")
 unfolding columns computing
-usage_of_positionals = record {
+usage_of_positionals = one_usage (codes "example_archive MODE [TARGET] [FILE]...\n") (record {
   lines = (codes "example_archive" ∷ codes "MODE" ∷ codes "[TARGET]" ∷ codes "[FILE]..." ∷ []) ∷ [];
   wrapped = record { in_order = refl; fit = (fits (lit< tt) (lit≤ tt), tt); full = tt };
   written = refl;
-}
+}) refl
 
 usage_of_every_part : IsUsage 80 (record (sample (mode ∷ described_files ∷ []) true) { options = record output { hidden = true } ∷ verbose ∷ []; epilogue = codes "Each file is read once." ∷ codes " " ∷ codes "No file is changed." ∷ [] })
     (codes "Usage: example_archive [OPTION]... MODE [FILE]...\n")
 unfolding columns computing
-usage_of_every_part = record {
+usage_of_every_part = one_usage (codes "example_archive [OPTION]... MODE [FILE]...\n") (record {
   lines = (codes "example_archive" ∷ codes "[OPTION]..." ∷ codes "MODE" ∷ codes "[FILE]..." ∷ []) ∷ [];
   wrapped = record { in_order = refl; fit = (fits (lit< tt) (lit≤ tt), tt); full = tt };
   written = refl;
-}
+}) refl
 
 usage_without_options : IsUsage 80 (record (sample [] true) { options = record output { hidden = true } ∷ []; about = [] }) (codes "Usage: example_archive\n")
 unfolding columns computing
-usage_without_options = record { lines = (codes "example_archive" ∷ []) ∷ []; wrapped = record { in_order = refl; fit = (fits (lit< tt) (lit≤ tt), tt); full = tt }; written = refl }
+usage_without_options = one_usage (codes "example_archive\n") (record { lines = (codes "example_archive" ∷ []) ∷ []; wrapped = record { in_order = refl; fit = (fits (lit< tt) (lit≤ tt), tt); full = tt }; written = refl }) refl
 
 files_entry : IsEntry 80 (codes "FILE") (codes "a file to read") (codes "  FILE                  a file to read\n")
 unfolding columns computing
@@ -117,7 +117,7 @@ returns-clause-sample c = record {
   usage_first = sample_usage;
   about_next = some_about;
   each_positional = tt;
-  each_option = (verbose_entry, (output_entry, (backup_entry, (exclude_entry, (help_entry, tt)))));
+  each_option = (alone verbose_entry refl, (alone output_entry refl, (alone backup_entry refl, (alone exclude_entry refl, (alone help_entry refl, tt)))));
   each_paragraph = tt;
   written = refl;
 }
@@ -177,18 +177,18 @@ returns-clause-every_part c = record {
   usage_first = usage_of_every_part;
   about_next = some_about;
   each_positional = (files_entry, tt);
-  each_option = (verbose_entry, tt);
+  each_option = (alone verbose_entry refl, tt);
   each_paragraph = (first_paragraph, (no_paragraph, (last_paragraph, tt)));
   written = refl;
 }
 
 usage_of_a_list : IsUsage 80 (record (sample [] true) { options = listed_mode ∷ []; about = [] }) (codes "Usage: example_archive [OPTION]...\n")
 unfolding columns computing
-usage_of_a_list = record {
+usage_of_a_list = one_usage (codes "example_archive [OPTION]...\n") (record {
   lines = (codes "example_archive" ∷ codes "[OPTION]..." ∷ []) ∷ [];
   wrapped = record { in_order = refl; fit = (fits (lit< tt) (lit≤ tt), tt); full = tt };
   written = refl;
-}
+}) refl
 
 list_entry : IsEntry 80 (label listed_mode) (with_list listed_mode.help listed_mode.words) (codes "  -m, --mode=MODE       how to pack: one of fast, slow\n")
 unfolding columns computing
@@ -208,7 +208,7 @@ returns-clause-list c = record {
   usage_first = usage_of_a_list;
   about_next = no_about;
   each_positional = tt;
-  each_option = (list_entry, tt);
+  each_option = (alone list_entry refl, tt);
   each_paragraph = tt;
   written = refl;
 }
@@ -230,11 +230,11 @@ returns-clause-hidden_option c = record {
 
 usage_of_mode : IsUsage 80 (record (sample (mode_in_list ∷ []) true) { options = []; about = [] }) (codes "Usage: example_archive MODE\n")
 unfolding columns computing
-usage_of_mode = record {
+usage_of_mode = one_usage (codes "example_archive MODE\n") (record {
   lines = (codes "example_archive" ∷ codes "MODE" ∷ []) ∷ [];
   wrapped = record { in_order = refl; fit = (fits (lit< tt) (lit≤ tt), tt); full = tt };
   written = refl;
-}
+}) refl
 
 mode_entry : IsEntry 80 mode_in_list.placeholder (with_list mode_in_list.help mode_in_list.words) (codes "  MODE                  one of fast, slow\n")
 unfolding columns computing
@@ -256,6 +256,64 @@ returns-clause-list_of_a_positional c = record {
   about_next = no_about;
   each_positional = (mode_entry, tt);
   each_option = tt;
+  each_paragraph = tt;
+  written = refl;
+}
+
+usage_of_headings : IsUsage 80 (record (sample [] true) { options = options_with_headings; about = [] }) (codes "Usage: example_archive [OPTION]...\n")
+unfolding columns computing
+usage_of_headings = one_usage (codes "example_archive [OPTION]...\n") (record {
+  lines = (codes "example_archive" ∷ codes "[OPTION]..." ∷ []) ∷ [];
+  wrapped = record { in_order = refl; fit = (fits (lit< tt) (lit≤ tt), tt); full = tt };
+  written = refl;
+}) refl
+
+pub returns-clause-headings : goal.returns-clause-headings
+returns-clause-headings c = record {
+  usage = codes "Usage: example_archive [OPTION]...\n";
+  about = [];
+  positionals = [];
+  options = codes "\nTelling:\n  -v, --verbose         tell more\n" ∷ codes "  -o, --output=FILE     the archive\n"
+      ∷ codes "\nOther:\n  -h, --help            print this help and exit\n" ∷ [];
+  epilogue = [];
+  usage_first = usage_of_headings;
+  about_next = no_about;
+  each_positional = tt;
+  each_option = (
+    record { own = codes "  -v, --verbose         tell more\n"; is_entry = verbose_entry; written = refl },
+    (alone output_entry refl, (record { own = codes "  -h, --help            print this help and exit\n"; is_entry = help_entry; written = refl }, tt)),
+  );
+  each_paragraph = tt;
+  written = refl;
+}
+
+unlisted_entry : IsEntry 80 (label listed_mode) listed_mode.help (codes "  -m, --mode=MODE       how to pack\n")
+unfolding columns computing
+unlisted_entry = record {
+  lines = (codes "how" ∷ codes "to" ∷ codes "pack" ∷ []) ∷ [];
+  wrapped = record { in_order = refl; fit = (fits (lit< tt) (lit≤ tt), tt); full = tt };
+  written = refl;
+}
+
+usage_without_the_list : IsUsage 80 (record (sample [] true) { options = record listed_mode { hides_list = true } ∷ []; about = [] }) (codes "Usage: example_archive [OPTION]...\n")
+unfolding columns computing
+usage_without_the_list = one_usage (codes "example_archive [OPTION]...\n") (record {
+  lines = (codes "example_archive" ∷ codes "[OPTION]..." ∷ []) ∷ [];
+  wrapped = record { in_order = refl; fit = (fits (lit< tt) (lit≤ tt), tt); full = tt };
+  written = refl;
+}) refl
+
+pub returns-clause-hidden_list : goal.returns-clause-hidden_list
+returns-clause-hidden_list c = record {
+  usage = codes "Usage: example_archive [OPTION]...\n";
+  about = [];
+  positionals = [];
+  options = codes "  -m, --mode=MODE       how to pack\n" ∷ [];
+  epilogue = [];
+  usage_first = usage_without_the_list;
+  about_next = no_about;
+  each_positional = tt;
+  each_option = (alone unlisted_entry refl, tt);
   each_paragraph = tt;
   written = refl;
 }

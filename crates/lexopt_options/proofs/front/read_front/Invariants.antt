@@ -4,7 +4,7 @@ use Rattle.lexopt_options.proofs.Fronts.{HasReached}
 use Rattle.lexopt_options.proofs.front.read_front.Given as goal
 
 abbrev pub invariant-loop-last : goal.invariant-loop-last
-invariant-loop-last g l = HasReached (declaration_of l.options) l.initial.parser l.parser l.words.items l.seen.items l.all_accepted l.unasked l.last l.going_on
+invariant-loop-last g l = HasReached (declaration_of l.options) l.initial.parser l.parser l.words.items l.all_accepted l.last l.going_on
 
 abbrev pub decreases-loop-last : goal.decreases-loop-last
 decreases-loop-last g l = bound l.parser

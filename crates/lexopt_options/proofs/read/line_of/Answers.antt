@@ -20,7 +20,7 @@ returns-in-Some g c = λ words v ended.
     let own = words_are (options_of o) had.l c.args.read.parsed.items had.are ∙ ap parsed_words (sym c.deref.ensures.value) in
     let seen = subst (λ (l : List ℕ). AreSeen d.options had.l l) (sym c.deref-in-End.ensures.value) had.are_seen in
     let wrong = rw c.in-Some.is at c.in_ok-mistake-in-End.ensures (had.counted ∙ sym (words_count had.l) ∙ ap length own) (subst (λ n. IsWithin n (most d.positionals)) (sym had.counted) had.read.within) in
-    c.refuse.ensures words (stopped_with o _ words read.0 _ _ _ _ had wrong.why wrong.told wrong.kept (wrong.stops read.0 v had.l read.2 own seen))
+    (c.refused_for.ensures words (stopped_with o _ words read.0 _ _ _ _ had wrong.why wrong.told wrong.kept (wrong.stops read.0 v had.l read.2 own seen))).0
 
 pub returns-in-End : goal.returns-in-End
 returns-in-End g c = λ words v ended.
@@ -43,12 +43,12 @@ pub returns-in-Positional : goal.returns-in-Positional
 returns-in-Positional g c = λ words v ended.
     let o = c.args.options.now in
     let read = rw c.in-Positional.is at ended in
-    c.refuse-in-Positional.ensures words
+    (c.refused_for-in-Positional.ensures words
     (stopped_with o _ words read.0 _ _ _ _ read.1 (stops.unexpected_argument c.in-Positional.word) refl (λ l. refl)
-    (stops.one_too_many c.in-Positional.word v read.2 (read.3 ∙ ap (λ n. Some n) read.1.counted)))
+    (stops.one_too_many c.in-Positional.word v read.2 (read.3 ∙ ap (λ n. Some n) read.1.counted)))).0
 
 pub returns-in-Asked : goal.returns-in-Asked
 returns-in-Asked g c = λ words v ended. (rw c.in-Asked.is at ended).0
 
 pub returns : goal.returns
-returns g c = λ words v ended. c.refuse-in-Mistake.ensures words (rw c.in-Mistake.is at ended).0
+returns g c = λ words v ended. (c.refused_for-in-Mistake.ensures words (rw c.in-Mistake.is at ended).0).0

@@ -1,8 +1,10 @@
-use Rattle.std.proofs.Common.{[], ◌∷◌, ◌∙◌, Some, ap, codes, map, true}
-use Rattle.lexopt_declaration.specs.Models.{count_view, option_view}
-use Rattle.lexopt_declaration.specs.declared.declaration.Words.TheVariants.{Directories, Listed}
+use Rattle.std.proofs.Common.{[], ◌∷◌, codes, false, map, refl, true}
+use Rattle.lexopt_declaration.specs.declared.declaration.Kind.TheVariants as kind
+use Rattle.lexopt_declaration.specs.declared.declaration.Names.TheVariants.{Short}
+use Rattle.lexopt_declaration.specs.declared.declaration.Words.TheVariants.{Directories, Files, Listed}
+use Rattle.test_option_callers.specs.declared.declared.Flag.TheVariants.{Verbose}
 use Rattle.test_option_callers.specs.declared.declared.Word.TheVariants.{From, To}
-use Rattle.test_option_callers.proofs.Printed.{made, same_tool, usage_or_error_of}
+use Rattle.test_option_callers.proofs.Printed.{same_tool, usage_or_error_of}
 use Rattle.test_option_callers.proofs.declared_texts.usage_or_error.Goals as goal
 
 pub returns : goal.returns
@@ -11,15 +13,28 @@ returns c =
     (record {
       program = record { ref_ptr = (0, 0); now = codes "small" };
       about = record { ref_ptr = (0, 0); now = [] };
-      options = record { ref_ptr = (0, 0); now = c.flag.result ∷ [] };
+      usage = record { ref_ptr = (0, 0); now = [] };
+      options = record {
+        ref_ptr = (0, 0);
+        now = record {
+          names = Short c.args.character;
+          kind = kind.Flag Verbose;
+          help = c.args.help;
+          heading = record { ref_ptr = _; now = [] };
+          hidden = false;
+          required = false;
+          words = Files;
+          hides_list = false;
+          aliases = record { ref_ptr = _; now = [] };
+        } ∷ [];
+      };
       positionals = record {
         ref_ptr = (0, 0);
-        now = record { key = From; placeholder = record { ref_ptr = _; now = codes "FROM" }; count = c.args.first; help = c.args.help; words = Directories }
-            ∷ record { key = To; placeholder = record { ref_ptr = _; now = codes "TO" }; count = c.args.second; help = c.args.help; words = Listed c.args.values } ∷ [];
+        now = record { key = From; placeholder = record { ref_ptr = _; now = codes "FROM" }; count = c.args.first; help = c.args.help; words = Directories; hides_list = false }
+            ∷ record { key = To; placeholder = record { ref_ptr = _; now = codes "TO" }; count = c.args.second; help = c.args.help; words = Listed c.args.values; hides_list = false } ∷ [];
       };
       epilogue = record { ref_ptr = (0, 0); now = [] };
       short_equals = true;
     }) c.usage_or_error_of.ensures
-    (ap (λ o. record (made c.args.character c.args.help.now (count_view c.args.first) (count_view c.args.second) (map (λ value. value.now) c.args.values.now)) { options = option_view o ∷ [] }) c.flag.ensures
-    ∙ same_tool c.args.character c.args.help.now c.args.first c.args.second (map (λ value. value.now) c.args.values.now))
-    (ap (λ o. Some o.names) c.flag.ensures)
+    (same_tool c.args.character c.args.help.now c.args.first c.args.second (map (λ value. value.now) c.args.values.now))
+    refl

@@ -1,4 +1,0 @@
-use Rattle.lexopt_commands.proofs.leading.complete_leading.Goals as goal
-
-pub returns : goal.returns
-returns g c = c.complete_parsed.ensures c.args.words.items c.parser_of-parser.ensures

@@ -1,0 +1,7 @@
+use Rattle.std.proofs.Common.{take}
+use Rattle.std.specs.List.{flat_map}
+use Rattle.lexopt_declaration.specs.Models.{AreAllText, names_list}
+use Rattle.lexopt_declaration.proofs.declaration.option_is_text.Given as goal
+
+abbrev pub invariant-loop-names : goal.invariant-loop-names
+invariant-loop-names g l = AreAllText (flat_map names_list (take l.names-index l.option.aliases.now))

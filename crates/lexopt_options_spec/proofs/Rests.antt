@@ -1,0 +1,130 @@
+-- Where the rest of a line begins.
+use Rattle.std.proofs.Common.{◌≡◌, ℕ, Bool, true, false, List, [], ◌∷◌, ◌++◌, map, Some, refl, sym, ap, subst, ◌∙◌, inl, append-nil, append_assoc, true≢false}
+use Rattle.std.proofs.lemmas.List.{append_cancel_right}
+use Rattle.lexopt_spec.specs.UnreadLine.{dash, no_tail, IsPlain, UnreadLine}
+use Rattle.lexopt_spec.specs.Steps as steps
+use Rattle.lexopt_spec.specs.Steps.{Next, NextStep, no_word_left, word_left, no_word, reads_separator, reads_long, reads_cluster, reads_positional, joined_value, equals_value, next_in_cluster, after_separator, next_word}
+use Rattle.lexopt_line_spec.specs.Table as spec
+use Rattle.lexopt_line_spec.specs.Table.{Item, Table}
+use Rattle.lexopt_line_spec.specs.Readings.{IsReading, ReadsItems, start}
+use Rattle.lexopt_line_spec.specs.Spelling.{Spells}
+use Rattle.lexopt_line_spec.proofs.ItemsRead.{says_items}
+use Rattle.lexopt_line_spec.proofs.Names.{shown_spells}
+use Rattle.lexopt_line_spec.proofs.ReadingSteps.{says_positional, reads_last}
+use Rattle.lexopt_line_spec.proofs.WholeLines.{said_shows}
+use Rattle.lexopt_options_spec.specs.Declaration.{Declaration, is_sound, table}
+use Rattle.lexopt_options_spec.specs.Legal.{Parsed, most, positional, positional_count, parsed_item}
+use Rattle.lexopt_options_spec.specs.Rest.{IsSplit}
+use Rattle.lexopt_options_spec.specs.States.{Says}
+use Rattle.lexopt_options_spec.specs.Stops.{ReadsUpTo}
+use Rattle.lexopt_options_spec.proofs.Cuts.{enough, items_cut, step_cut, with_words}
+use Rattle.lexopt_options_spec.proofs.Lists.{joined}
+use Rattle.lexopt_options_spec.proofs.Sound.{whole_names}
+
+-- if no word is left, the line ends
+pub ends_here : (u : UnreadLine) (ended : Bool) → u.ended ≡ ended → u.tail ≡ no_tail → u.words ≡ [] → NextStep u steps.end u
+ends_here u true is none empty = after_separator none is (no_word_left empty refl refl)
+ends_here u false is none empty = next_word none is (no_word empty refl refl)
+
+-- the next word is a positional, or the one after the separator is; before the separator it is plain
+pub record WordRead (u : UnreadLine) (word : List ℕ) (w : UnreadLine) : Type 0 where
+  pub before : List (List ℕ)
+  pub words_are : u.words ≡ before ++ word ∷ w.words
+  pub after : UnreadLine
+  pub ends : NextStep (with_words before u) steps.end after
+  pub none : w.tail ≡ no_tail
+  pub plain : w.ended ≡ false → IsPlain false word
+
+word_is : (w word : List ℕ) → steps.positional word ≡ steps.positional w → w ≡ word
+word_is w word is = cc
+
+pub word_read : (u w : UnreadLine) (word : List ℕ) → NextStep u (steps.positional word) w → WordRead u word w
+word_read u w word (joined_value value o joins spelled r_is after) = absurd (let e : steps.positional word ≡ steps.unexpected o value = r_is in cc)
+word_read u w word (equals_value value o joins on spelled r_is after) = absurd (let e : steps.positional word ≡ steps.unexpected o value = r_is in cc)
+word_read u w word (next_in_cluster bytes continues not reads) = absurd (let e : steps.positional word ≡ steps.short _ = reads.reply_is in cc)
+word_read u w word (after_separator none ended (no_word_left empty r_is after)) = absurd (let e : steps.positional word ≡ steps.end = r_is in cc)
+word_read u w word (after_separator none ended (word_left x ws some r_is after)) = record {
+  before = [];
+  words_are = some ∙ ap (λ y. y ∷ ws) (word_is x word r_is) ∙ ap (λ (l : List (List ℕ)). word ∷ l) (sym (ap (λ (v : UnreadLine). v.words) after));
+  after = with_words [] u;
+  ends = ends_here (with_words [] u) true ended none refl;
+  none = ap (λ (v : UnreadLine). v.tail) after ∙ none;
+  plain = λ before. absurd (true≢false (sym ended ∙ sym (ap (λ (v : UnreadLine). v.ended) after) ∙ before));
+}
+word_read u w word (next_word none not (no_word empty r_is after)) = absurd (let e : steps.positional word ≡ steps.end = r_is in cc)
+word_read u w word (next_word none not (reads_separator ws some (no_word_left empty r_is after))) = absurd (let e : steps.positional word ≡ steps.end = r_is in cc)
+word_read u w word (next_word none not (reads_separator ws some (word_left x xs more r_is after))) = record {
+  before = (dash ∷ dash ∷ []) ∷ [];
+  words_are = some ∙ ap (λ (l : List (List ℕ)). (dash ∷ dash ∷ []) ∷ l) (more ∙ ap (λ y. y ∷ xs) (word_is x word r_is) ∙ ap (λ (l : List (List ℕ)). word ∷ l) (sym (ap (λ (v : UnreadLine). v.words) after)));
+  after = record u { words = []; ended = true };
+  ends = next_word none not (reads_separator [] refl (no_word_left refl refl refl));
+  none = ap (λ (v : UnreadLine). v.tail) after ∙ none;
+  plain = λ before. absurd (true≢false (sym (ap (λ (v : UnreadLine). v.ended) after) ∙ before));
+}
+word_read u w word (next_word none not (reads_long text name tail ws some other long r_is after)) = absurd (let e : steps.positional word ≡ steps.long _ = r_is in cc)
+word_read u w word (next_word none not (reads_cluster bytes ws some other reads)) = absurd (let e : steps.positional word ≡ steps.short _ = reads.reply_is in cc)
+word_read u w word (next_word none not (reads_positional x ws some plain r_is after)) = record {
+  before = [];
+  words_are = some ∙ ap (λ y. y ∷ ws) (word_is x word r_is) ∙ ap (λ (l : List (List ℕ)). word ∷ l) (sym (ap (λ (v : UnreadLine). v.words) after));
+  after = with_words [] u;
+  ends = ends_here (with_words [] u) false not none refl;
+  none = ap (λ (v : UnreadLine). v.tail) after ∙ none;
+  plain = λ before. subst (IsPlain false) (word_is x word r_is) plain;
+}
+
+-- words whose reading reaches the end spell what was read
+pub reading_spells : (d : Declaration) → is_sound d.options ≡ true → (words : List (List ℕ)) (items : List Item) (l : List Parsed) → IsReading (table d.options) (start d.short_equals words) steps.end items
+    → map (parsed_item d.options) items ≡ map (λ s. Some s) l → Spells (table d.options) d.short_equals words items
+reading_spells d sound words items l reading parsed =
+    shown_spells (table d.options) d.short_equals words items (said_shows (table d.options) d.short_equals words items reading) (whole_names d.options sound items l parsed)
+
+pub ends_reading : (t : Table) (u v w : UnreadLine) (items : List Item) → ReadsItems t u items v → NextStep v steps.end w → IsReading t u steps.end items
+ends_reading t u v w items reads step =
+    subst (IsReading t u steps.end) (append-nil items) (says_items t u v items reads steps.end [] (reads_last t v w steps.end tt (inl step)))
+
+-- the front of a line whose reading came to this positional, which is one too many
+pub record FrontRead (d : Declaration) (words : List (List ℕ)) (l : List Parsed) (word : List ℕ) (more : List (List ℕ)) : Type 0 where
+  pub front : List (List ℕ)
+  pub split : IsSplit d words front word more
+  pub there : UnreadLine
+  pub read : ReadsUpTo d (start d.short_equals front) l there
+  pub after : UnreadLine
+  pub ends : Next there steps.end after
+
+pub front_read : (d : Declaration) → is_sound d.options ≡ true → (words : List (List ℕ)) (l : List Parsed) (u w : UnreadLine) (word : List ℕ) → ReadsUpTo d (start d.short_equals words) l u → most d.positionals ≡ Some (positional_count l)
+    → Next u (steps.positional word) w → FrontRead d words l word w.words
+front_read d sound words l u w word read full next =
+    let t = table d.options in
+    let step = enough NextStep u (steps.positional word) w next (λ no. cc) in
+    let at = word_read u w word step in
+    let front = items_cut t (start d.short_equals words) u read.items at.before (word ∷ w.words) at.words_are read.read in
+    let reads = step_cut u w (steps.positional word) [] w.words refl step in
+    let whole = items_cut t (start d.short_equals words) u read.items reads.before w.words reads.words_are read.read in
+    let one : whole.before ≡ front.before ++ word ∷ [] =
+    append_cancel_right whole.before (front.before ++ word ∷ []) w.words (sym whole.words_are ∙ front.words_are ∙ sym (append_assoc front.before (word ∷ []) w.words)) in
+    let last = says_positional t (with_words reads.before u) (with_words [] w) word (inl reads.holds) steps.end []
+    (reads_last t (with_words [] w) (with_words [] w) steps.end tt (inl (ends_here (with_words [] w) w.ended refl at.none refl))) in
+    let reading = says_items t (start d.short_equals whole.before) (with_words reads.before u) read.items whole.holds steps.end (spec.positional word ∷ []) last in
+    let more = joined (parsed_item d.options) read.items l (spec.positional word) (positional word) read.parsed refl in
+    record {
+      front = front.before;
+      split = record {
+        words_are = front.words_are;
+        l = l;
+        says = record {
+          items = read.items;
+          spelled = reading_spells d sound front.before read.items l (ends_reading t (start d.short_equals front.before) (with_words at.before u) at.after read.items front.holds at.ends) read.parsed;
+          parsed = read.parsed;
+        };
+        full = full;
+        begins = subst (λ ws. Says d ws (l ++ positional word ∷ [])) one (record {
+          items = read.items ++ spec.positional word ∷ [];
+          spelled = reading_spells d sound whole.before (read.items ++ spec.positional word ∷ []) (l ++ positional word ∷ []) reading more;
+          parsed = more;
+        });
+      };
+      there = with_words at.before u;
+      read = record { items = read.items; read = front.holds; line = read.line; parsed = read.parsed; within = read.within };
+      after = at.after;
+      ends = inl at.ends;
+    }

@@ -1,0 +1,53 @@
+//! Worked examples of the further names of options, which the definitions compute.
+ghost use Rattle.std.specs.Prelude.{◌≡◌, ◌∷◌, [], None, Some, codes};
+ghost use Rattle.lexopt_line_spec.specs.Table.{long, short};
+ghost use Rattle.lexopt_options_spec.specs.Completion.{explained};
+ghost use Rattle.lexopt_options_spec.specs.Declarable.{fault_beside};
+ghost use Rattle.lexopt_options_spec.specs.Declaration.{bad_placeholder, dash_name, empty_name};
+ghost use Rattle.lexopt_options_spec.specs.Declaration.{equals_in_name, index_of, same_name, table};
+ghost use Rattle.lexopt_options_spec.specs.Examples.{also, color, voluntary_option};
+ghost use Rattle.lexopt_options_spec.specs.Help.{label};
+ghost use Rattle.lexopt_options_spec.specs.Nearest.{long_names};
+
+/// An option has its further names like its own.
+pub fn further_names_are_read()
+    ensures own { index_of (voluntary_option ∷ color ∷ []) (long (codes "color")) ≡ Some 1 }
+    ensures name { index_of (voluntary_option ∷ color ∷ []) (long (codes "colour")) ≡ Some 1 }
+    ensures character { index_of (voluntary_option ∷ color ∷ []) (short 0x43) ≡ Some 1 }
+    ensures front { index_of (voluntary_option ∷ color ∷ []) (long (codes "colou")) ≡ None }
+    ensures table { table (voluntary_option ∷ color ∷ []) ≡ record {
+      shorts = [];
+      longs = [];
+      optional_shorts = 0x43 ∷ [];
+      optional_longs = codes "color" ∷ codes "colour" ∷ [];
+      several_shorts = [];
+      several_longs = [];
+    } }
+{}
+
+/// Nothing shows them.
+pub fn further_names_are_not_shown()
+    ensures help { label color ≡ codes "    --color[=WHEN]" }
+    ensures completion { explained (color ∷ []) ≡ (codes "--color", []) ∷ [] }
+    ensures hints { long_names (color ∷ []) ≡ codes "color" ∷ [] }
+{}
+
+/// What is wrong with them is what is wrong with a name.
+pub fn further_names_are_checked()
+    ensures dash { fault_beside [] (also (short 0x2D ∷ []) voluntary_option) ≡ Some dash_name }
+    ensures second { fault_beside [] (also (long (codes "v") ∷ long [] ∷ []) voluntary_option)
+        ≡ Some empty_name }
+    ensures equals_sign { fault_beside [] (also (long (codes "a=b") ∷ []) voluntary_option)
+        ≡ Some equals_in_name }
+    ensures of_another { fault_beside (color ∷ []) (also (long (codes "color") ∷ []) voluntary_option)
+        ≡ Some same_name }
+    ensures own { fault_beside (also (long (codes "color") ∷ []) voluntary_option ∷ []) color
+        ≡ Some same_name }
+    ensures further { fault_beside (color ∷ []) (also (short 0x43 ∷ []) voluntary_option)
+        ≡ Some same_name }
+    ensures first { fault_beside (color ∷ []) (record (also (short 0x2D ∷ []) color) { placeholder = [] })
+        ≡ Some dash_name }
+    ensures last { fault_beside (color ∷ []) (record (also [] color) { placeholder = [] })
+        ≡ Some bad_placeholder }
+    ensures twice { fault_beside [] (also (short 0x76 ∷ []) voluntary_option) ≡ None }
+{}
