@@ -2,7 +2,7 @@
 //! and ends it after some time.
 #![tactic(auto)]
 
-use lexopt_commands::{Rest, Wrapper, WrapperAnswer, finish};
+use lexopt_commands::{Rest, RestStart, Wrapper, WrapperAnswer, finish};
 use lexopt_options::{
     Declaration, Names, Options, OsString, Parsed, UsageError, ValueExt, declare,
 };
@@ -37,6 +37,7 @@ static DECLARATION: Declaration<'static, Flag, Value, Word> = declare! {
 };
 
 const COMMAND: Rest<'static> = Rest {
+    start: RestStart::Surplus,
     placeholder: "COMMAND",
     help: "what it would run",
     required: true,

@@ -1,7 +1,6 @@
 -- The help of a program with commands.
-use Rattle.std.proofs.Common.{◌≡◌, ◌<◌, ◌+◌, ◌++◌, ◌∷◌, [], ℕ, Bool, List, length, take, get_or, ap, sym, subst, ◌∙◌, append_assoc}
+use Rattle.std.proofs.Common.{◌≡◌, ◌<◌, ◌+◌, ◌++◌, ◌∷◌, [], ℕ, List, length, take, get_or, ap, sym, subst, ◌∙◌, append_assoc}
 use Rattle.std.proofs.lemmas.List.{take_more}
-use Rattle.lexopt_options_spec.specs.Declaration.{Declaration, Declared, Positional}
 use Rattle.lexopt_options_spec.specs.Help.{IsEntry, set_apart}
 use Rattle.lexopt_options_spec.proofs.Wrapping.{Listed, one_listed}
 use Rattle.lexopt_commands.specs.declared.command.Command.{Command}
@@ -25,22 +24,3 @@ pub in_parts : (usage about commands options epilogue two three four five : List
     → five ≡ usage ++ about ++ commands ++ options ++ epilogue
 in_parts usage about commands options epilogue two three four five e f g h =
     h ∙ ap (λ l. l ++ epilogue) (g ∙ ap (λ l. l ++ options) (f ∙ ap (λ l. l ++ commands) e)) ∙ simp append_assoc
-
--- ---- the declaration of the usage
-
-pub same_list : {X : Type 0} {x y v w : X} → x ≡ v → y ≡ w → x ∷ y ∷ [] ≡ v ∷ w ∷ []
-same_list e f = cc
-
--- a declaration of these parts
-made : List ℕ → List ℕ → List (List ℕ) → List Declared → List Positional → List (List ℕ) → Bool → Declaration
-made program about usage options positionals epilogue short_equals =
-    record { program = program; about = about; usage = usage; options = options; positionals = positionals; epilogue = epilogue; short_equals = short_equals }
-
-same_parts : {p q a b : List ℕ} {u v l m : List (List ℕ)} {o n : List Declared} {r t : List Positional} {s w : Bool} → p ≡ q → a ≡ b → u ≡ v → o ≡ n → r ≡ t → l ≡ m → s ≡ w
-    → made p a u o r l s ≡ made q b v n t m w
-same_parts p a u o r l s = cc
-
--- two that are the same in each part
-pub same_declaration : (d e : Declaration) → d.program ≡ e.program → d.about ≡ e.about → d.usage ≡ e.usage → d.options ≡ e.options → d.positionals ≡ e.positionals → d.epilogue ≡ e.epilogue → d.short_equals ≡ e.short_equals → d ≡ e
-unfolding made
-same_declaration d e programs abouts usages options positionals epilogues equals = same_parts programs abouts usages options positionals epilogues equals

@@ -2,5 +2,4 @@ pub mod FirstFaults
 pub mod Found
 pub mod Entries
 pub mod LinesRead
-pub mod RestTexts
 pub mod Wholes

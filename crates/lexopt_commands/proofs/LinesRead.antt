@@ -3,7 +3,7 @@ use Rattle.std.proofs.Common.{◌≡◌, ℕ, List, Option, Some, None, subst, s
 use Rattle.std.specs.declared.convert.Infallible.{Infallible}
 use Rattle.lexopt_options_spec.specs.Asking.{first_asked}
 use Rattle.lexopt_options_spec.specs.Declaration as spec
-use Rattle.lexopt_options_spec.specs.Rest.{MeansBefore}
+use Rattle.lexopt_options_spec.specs.Rest.{MeansBefore, surplus}
 use Rattle.lexopt_options_spec.specs.Legal as legal
 use Rattle.lexopt_options.specs.declared.mistake.Mistake.{Mistake}
 use Rattle.lexopt_options.specs.declared.options.Options.{Options}
@@ -25,7 +25,7 @@ use Rattle.std.specs.Prelude.{slice_get}
 
 -- what is read, for each list of options and each rest that the words mean
 abbrev pub IsOfEach : {F V M S : Type 0} → Options F V Infallible M S → List (List ℕ) → Line F V Infallible M S → List (List ℕ) → Type 0
-IsOfEach o words found others = (l : List legal.Parsed) (rest : List (List ℕ)) → MeansBefore (declaration_of o) words l rest → IsRestOf o l rest others found
+IsOfEach o words found others = (l : List legal.Parsed) (rest : List (List ℕ)) → MeansBefore surplus (declaration_of o) words l rest → IsRestOf o l rest others found
 
 -- the same, for the options and the result that calls return
 pub of_each : {F V M S : Type 0} (o own : Options F V Infallible M S) (words others : List (List ℕ)) (found it : Line F V Infallible M S) → o ≡ own → found ≡ it → IsOfEach o words found others → IsOfEach own words it others

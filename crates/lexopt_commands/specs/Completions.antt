@@ -7,7 +7,7 @@ use Rattle.std.specs.Str.{chars}
 use Rattle.lexopt_options_spec.specs.Help.{line_feed}
 use Rattle.lexopt_declaration.specs.Texts.{on_one_line}
 use Rattle.lexopt_options.specs.Answers.{IsCompletionText}
-use Rattle.lexopt_options_spec.specs.Rest.{HaveNoRest, IsSplit}
+use Rattle.lexopt_options_spec.specs.Rest.{HaveNoRest, IsSplit, surplus}
 use Rattle.lexopt_options.specs.Begun.{TellsRest}
 use Rattle.lexopt_options.specs.Declarations.{declaration_of}
 use Rattle.lexopt_commands.specs.declared.answer.Step.{Step}
@@ -37,7 +37,7 @@ names_if c typed can = if can then flat_map (begun_line typed) c.commands.now el
 -- the same, by whether a name can come after these words
 abbrev pub IsNamesText : {C F V M S : Type 0} → Commands C F V M S → List (List ℕ) → List ℕ
     → List ℕ → Type 0
-IsNamesText c words typed text = (can : Bool) × TellsRest (declaration_of c.options) words can
+IsNamesText c words typed text = (can : Bool) × TellsRest surplus (declaration_of c.options) words can
     × (text ≡ names_if c typed can)
 
 -- ---- where a word is typed
@@ -98,7 +98,7 @@ pub record IsPlacedAfter {C F V M S : Type 0} (c : Commands C F V M S)
   pub front : List (List ℕ)
   pub word : List ℕ
   pub more : List (List ℕ)
-  pub split : IsSplit (declaration_of c.options) words front word more
+  pub split : IsSplit surplus (declaration_of c.options) words front word more
   pub placed : IsPlaced c typed (place c.commands.now (word ∷ more)) found
 
 -- this text is printed
@@ -110,7 +110,7 @@ IsText found text = ⊥
 -- offers.
 pub record IsUnplaced {C F V M S : Type 0} (c : Commands C F V M S)
     (words : List (List ℕ)) (typed : List ℕ) (found : Step C F V M S) : Type 0 where
-  pub without_rest : HaveNoRest (declaration_of c.options) words
+  pub without_rest : HaveNoRest surplus (declaration_of c.options) words
   pub names : List ℕ
   pub are_names : IsNamesText c words typed names
   pub own : List ℕ

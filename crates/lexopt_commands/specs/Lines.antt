@@ -14,6 +14,7 @@ use Rattle.lexopt_options.specs.declared.refused.Line.TheVariants as front
 use Rattle.lexopt_options.specs.declared.refused.Refused.{Refused}
 use Rattle.lexopt_options.specs.Declarations.{declaration_of, options_of}
 use Rattle.lexopt_options.specs.Keys.{AreParsedAs, asked_view}
+use Rattle.lexopt_options_spec.specs.Rest.{surplus}
 use Rattle.lexopt_options.specs.RestLines.{IsRestRead}
 use Rattle.lexopt_commands.specs.declared.commands.Commands.{Commands}
 use Rattle.lexopt_commands.specs.declared.read.CommandLine.{CommandLine}
@@ -46,7 +47,7 @@ pub record IsAfterOptions {C F V M S : Type 0} (c : Commands C F V M S)
     (words : List (List ℕ)) (line : CommandLine C F V M S) : Type 0 where
   pub rest : List (List ℕ)
   pub parsed : Vec (Parsed F V Infallible M S) Global
-  pub read : IsRestRead c.options words rest (front.Parsed parsed)
+  pub read : IsRestRead surplus c.options words rest (front.Parsed parsed)
   pub after : IsLineAfter c parsed.items rest line
 
 -- ---- by the general options alone
@@ -56,9 +57,9 @@ abbrev pub IsByOptions : {C F V M S : Type 0} → Options F V Infallible M S →
     → CommandLine C F V M S → Type 0
 IsByOptions o words (line.Command parsed name key own) = ⊥
 IsByOptions o words (line.Asked asked) =
-    (rest : List (List ℕ)) × IsRestRead o words rest (front.Asked asked)
+    (rest : List (List ℕ)) × IsRestRead surplus o words rest (front.Asked asked)
 IsByOptions o words (line.Refused refused) =
-    (rest : List (List ℕ)) × IsRestRead o words rest (front.Refused refused)
+    (rest : List (List ℕ)) × IsRestRead surplus o words rest (front.Refused refused)
 
 -- ---- all
 

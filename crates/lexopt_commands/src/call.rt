@@ -1,8 +1,10 @@
 //! What is handed on to a command: the words for it, or what a shell asks about them.
 ghost use Rattle.std.specs.Prelude.{◌≡◌, IfOk, string_bytes};
 ghost use Rattle.lexopt_commands.specs.Calls.{IsCallAnswer, path_of};
+ghost use Rattle.lexopt_commands.specs.Wrappers.{IsWrapperCall};
 
 use crate::commands::Commands;
+use crate::wrapper::{Wrapper, WrapperAnswer};
 use lexopt_options::{Answer, Options, Parsed, Request};
 use std::alloc::{AllocError, Global};
 use std::convert::Infallible;
@@ -77,6 +79,62 @@ impl<F: Drop, V: Drop, M: Drop, S: Drop> Call<F, V, M, S> {
     {
         let answer = options.answer_request(alloc, self.request, width)?;
         Ok((self.general, answer))
+    }
+
+    /// Returns the same for a command whose line ends with a rest, such as `git log`, whose paths come
+    /// after the separator: what the general options mean, and what `Wrapper::answer_request`
+    /// returns.
+    ///
+    /// # Errors
+    ///
+    /// Returns `AllocError` if an allocation fails.
+    ///
+    /// # Examples
+    ///
+    /// ```rust
+    /// use std::convert::Infallible;
+    /// use std::io;
+    ///
+    /// static LOG: Declaration<'static, Infallible, Infallible, ()> = declare! {
+    ///     program: "log",
+    ///     options: [help(Names::Both('h', "help"))],
+    ///     positionals: [any_number((), "REVISION").text()],
+    /// };
+    ///
+    /// const PATHS: Rest<'static> = Rest {
+    ///     start: RestStart::Separated,
+    ///     placeholder: "PATH",
+    ///     help: "only what changed these",
+    ///     required: false,
+    /// };
+    ///
+    /// fn log(rt: &HostRuntime, path: &str, call: Call<Infallible, ()>) -> io::Result<()> {
+    ///     let wrapper = Wrapper::new(Options::new(&LOG).with_program(path), PATHS);
+    ///     let (_general, answer) = call.answer_wrapped(rt.alloc(), &wrapper, columns(rt))?;
+    ///     match answer {
+    ///         // For `git log main -- x`, `line` is Positional((), "main"), and `paths` is `x`.
+    ///         WrapperAnswer::Parsed(line, paths) => println!(rt; "{line:?} {paths:?}"),
+    ///         WrapperAnswer::Text(text) => rt.print(text),
+    ///         WrapperAnswer::Refused(refused) => rt.eprintln(refused),
+    ///     }
+    /// }
+    /// ```
+    pub fn answer_wrapped<'a, G: Copy, W: Copy, P: Copy, N: Copy, T: Copy>(
+        self,
+        alloc: Global,
+        wrapper: &Wrapper<'a, G, W, P, N, T>,
+        width: usize,
+    ) -> Result<
+        (
+            Vec<Parsed<F, V, Infallible, M, S>>,
+            WrapperAnswer<'a, G, W, P, N, T>,
+        ),
+        AllocError,
+    >
+        ensures { IfOk result (λ found. IsWrapperCall self wrapper.now width found) }
+    {
+        let found = wrapper.answer_request(alloc, self.request, width)?;
+        Ok((self.general, found))
     }
 }
 

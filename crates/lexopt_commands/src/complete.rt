@@ -11,7 +11,7 @@ use crate::command::{Command, Runs};
 use crate::commands::Commands;
 use crate::read::{command_of, take_first};
 use lexopt_declaration::message::push_help;
-use lexopt_options::{Request, RestCompletion, complete_rest};
+use lexopt_options::{Request, RestCompletion, RestStart, complete_rest};
 use lexopt_words::os_string::OsString;
 use std::alloc::{AllocError, Global};
 
@@ -156,7 +156,7 @@ impl<'a, C: Copy, F: Copy, V: Copy, M: Copy, S: Copy> Commands<'a, C, F, V, M, S
     ) -> Result<Step<'a, C, F, V, M, S>, AllocError>
         ensures { IfOk result (λ step. IsCompletionStep self.now words.items typed step) }
     {
-        match complete_rest(alloc, &self.options(), words, &typed)? {
+        match complete_rest(alloc, &self.options(), RestStart::Surplus, words, &typed)? {
             RestCompletion::Rest(rest) => self.placed_step(alloc, rest, typed),
             RestCompletion::Text { text, begins_rest } => {
                 let mut all = self.names_if(alloc, begins_rest, &typed)?;

@@ -3,16 +3,16 @@
 ghost use Rattle.std.specs.Prelude.{◌≡◌, ℕ, IfOk, List, string_bytes};
 ghost use Rattle.std.specs.List.{AllZip, concat};
 ghost use Rattle.lexopt_options_spec.specs.Help.{IsEntry, IsUsage};
-ghost use Rattle.lexopt_declaration.specs.Models.{count_view, positional_view};
 ghost use Rattle.lexopt_options.specs.Declarations.{declaration_of};
-ghost use Rattle.lexopt_commands.specs.Help.{IsHelp, usage_positional, with_command};
+ghost use Rattle.lexopt_commands.specs.Help.{IsHelp, with_command};
 
 use crate::command::Command;
 use crate::commands::Commands;
+use crate::wrapper::{Rest, Wrapper};
 use lexopt_declaration::help::{
-    push_apart, push_described, push_epilogue, push_options, push_paragraph, usage,
+    push_apart, push_described, push_epilogue, push_options, push_paragraph,
 };
-use lexopt_options::{Count, Declaration, Options, Positional, Words};
+use lexopt_options::{Options, RestStart};
 use std::alloc::{AllocError, Global};
 use std::convert::Infallible;
 
@@ -33,23 +33,15 @@ fn command_entries<C>(
     Ok(text)
 }
 
-// A positional that only the usage line shows.
-fn usage_positional(placeholder: &str, count: Count) -> Positional<'_, ()>
-    ensures { positional_view result ≡ usage_positional placeholder.now (count_view count) }
-{
-    Positional {
-        key: (),
-        placeholder,
-        count,
-        help: "",
-        words: Words::Files,
-        hides_list: false,
-    }
-}
+// A command and its arguments, which the usage line alone shows.
+const COMMAND: Rest<'static> = Rest {
+    start: RestStart::Surplus,
+    placeholder: "COMMAND",
+    help: "",
+    required: true,
+};
 
-// The usage, wrapped to `width` columns: that of the general declaration with `COMMAND` and
-// `ARGUMENT` as its positionals. It shows none of the parts that are copied only to make a
-// declaration.
+// The usage, wrapped to `width` columns: that of the general options, with a command after them.
 fn usage_of<F, V, M, S>(
     alloc: Global,
     options: &Options<'_, F, V, Infallible, M, S>,
@@ -58,19 +50,7 @@ fn usage_of<F, V, M, S>(
     ensures { IfOk result (λ text.
         IsUsage width (with_command (declaration_of options.now)) (string_bytes text)) }
 {
-    let declaration: Declaration<'_, F, V, (), M, S> = Declaration {
-        program: options.program(),
-        about: options.about(),
-        usage: options.usage_texts(),
-        options: options.options(),
-        positionals: &[
-            usage_positional("COMMAND", Count::Once),
-            usage_positional("ARGUMENT", Count::AnyNumber),
-        ],
-        epilogue: options.epilogue(),
-        short_equals: options.has_short_equals(),
-    };
-    usage(alloc, &declaration, width)
+    Wrapper::new(*options, COMMAND).usage(alloc, width)
 }
 
 // The help, wrapped to `width` columns.

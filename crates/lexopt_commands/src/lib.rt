@@ -178,7 +178,8 @@
 //!   returns the request for the help, and the mistake, as values; and [`Commands::help`] and
 //!   [`Commands::usage`] return the help and its usage line.
 //! - [`Wrapper`] is for a program that runs another one, such as `timeout`: its line goes on with the
-//!   command line of that program, which shells complete as such.
+//!   command line of that program, which shells complete as such. It is also for words that come
+//!   after the separator alone, as the paths of `git log`.
 //!
 //! A shell completes the lines of `notes` after `source <(_NOTES_COMPLETE=bash_source notes)` in
 //! the start-up file of bash; `lexopt_options` has the lines for zsh and fish.
@@ -208,4 +209,4 @@ pub use read::CommandLine;
 pub use wrapper::{Rest, Wrapper, WrapperAnswer};
 
 // What else a program that declares commands needs.
-pub use lexopt_options::{BROKEN_PIPE, columns, finish};
+pub use lexopt_options::{BROKEN_PIPE, RestStart, columns, finish};

@@ -14,7 +14,7 @@ use crate::command::{Command, Runs, is_named};
 use crate::commands::Commands;
 use lexopt_declaration::lookup::help_names_of;
 use lexopt_declaration::nearest::hinted_names;
-use lexopt_options::{Asked, Line, Mistake, Parsed, Refused, read_rest};
+use lexopt_options::{Asked, Line, Mistake, Parsed, Refused, RestStart, read_rest};
 use lexopt_words::codepoint::lossy_text;
 use lexopt_words::os_string::OsString;
 use std::alloc::{AllocError, Global};
@@ -233,7 +233,7 @@ impl<'a, C, F, V, M, S> Commands<'a, C, F, V, M, S> {
 impl<'a, C: Copy, F: Copy, V: Copy, M: Copy, S: Copy> Commands<'a, C, F, V, M, S> {
     ghost use Rattle.std.specs.Prelude.{◌≡◌, ◌∷◌, ℕ, IfOk, List, None, Some, slice_get};
     ghost use Rattle.lexopt_options_spec.specs.Asking.{first_asked};
-    ghost use Rattle.lexopt_options_spec.specs.Rest.{MeansBefore};
+    ghost use Rattle.lexopt_options_spec.specs.Rest.{MeansBefore, surplus};
     ghost use Rattle.lexopt_options_spec.specs.Legal as legal;
     ghost use Rattle.lexopt_options.specs.Declarations.{declaration_of};
     ghost use Rattle.lexopt_commands.specs.declared.command.Command as one;
@@ -312,7 +312,7 @@ impl<'a, C: Copy, F: Copy, V: Copy, M: Copy, S: Copy> Commands<'a, C, F, V, M, S
 
         // If the words are general options and a rest, this is what those mean.
         ensures answered { (l : List legal.Parsed) (rest : List (List ℕ))
-            → MeansBefore (declaration_of self.now.options) words.items l rest
+            → MeansBefore surplus (declaration_of self.now.options) words.items l rest
             → IfOk result (λ line. IsLineOf self.now l rest line) }
 
         // If the words are general options that ask for nothing, the name of a command and words
@@ -320,11 +320,11 @@ impl<'a, C: Copy, F: Copy, V: Copy, M: Copy, S: Copy> Commands<'a, C, F, V, M, S
         ensures named { (i : ℕ) (own : one.Command C) (key : C) (l : List legal.Parsed)
             (rest : List (List ℕ)) → slice_get self.now.commands.now i ≡ Some own
             → own.runs ≡ runs.Command key
-            → MeansBefore (declaration_of self.now.options) words.items l (own.name.now ∷ rest)
+            → MeansBefore surplus (declaration_of self.now.options) words.items l (own.name.now ∷ rest)
             → first_asked (declaration_of self.now.options).options l ≡ None
             → IfOk result (λ line. IsCommandLine self.now l own.name.now key rest line) }
     {
-        let (line, rest) = read_rest(alloc, &self.options(), words)?;
+        let (line, rest) = read_rest(alloc, &self.options(), RestStart::Surplus, words)?;
         match line {
             Line::Parsed(parsed) => self.end(alloc, parsed, rest),
             Line::Asked(asked) => Ok(CommandLine::Asked(asked)),

@@ -1,16 +1,18 @@
-//! Declared options of a program that runs another one, such as `timeout`: the first words of a line
-//! are its own, and the rest is the command line of the other program.
-ghost use Rattle.std.specs.Prelude.{◌≡◌, ◌++◌, ◌∷◌, ◌-◌, ◌&&◌, [], IfOk, length, map, not};
+//! Declared options of a program whose line ends with a rest, which it does not read: the command line
+//! of another program, as that of `timeout`, or the words after the separator.
+ghost use Rattle.std.specs.Prelude.{◌≡◌, ◌++◌, ◌&&◌, [], IfOk, map, not};
 ghost use Rattle.std.specs.Prelude.{if◌then◌else◌, string_bytes};
 ghost use Rattle.lexopt_declaration.specs.Models.{count_view, positional_view};
+ghost use Rattle.lexopt_options.specs.RestStarts.{start_view};
 ghost use Rattle.lexopt_commands.specs.Wrappers.{argument_positional, begins_with_dash};
-ghost use Rattle.lexopt_commands.specs.Wrappers.{command_line, rest_count, rest_positional};
+ghost use Rattle.lexopt_commands.specs.Wrappers.{command_line, rest_count, rest_line, rest_mark};
+ghost use Rattle.lexopt_commands.specs.Wrappers.{rest_positional, rest_positionals, text_before};
 
 use lexopt_declaration::declaration::{Count, Declaration, Positional, Words};
 use lexopt_declaration::help;
 use lexopt_declaration::lookup::help_names_of;
 use lexopt_options::{
-    Asked, Line, Mistake, Options, Parsed, Refused, Request, RestCompletion, columns,
+    Asked, Line, Mistake, Options, Parsed, Refused, Request, RestCompletion, RestStart, columns,
     complete_rest, read_rest,
 };
 use lexopt_words::os_string::OsString;
@@ -18,33 +20,42 @@ use std::alloc::{AllocError, Global};
 use std::convert::Infallible;
 use std::env::Env;
 
-/// What the rest of a line is: the command line of another program.
+/// What the rest of a line is.
 #[derive(Debug, Clone, Copy)]
 pub struct Rest<'a> {
-    /// The placeholder of its first word in the usage line, in the help and in messages, such as
-    /// `COMMAND`.
+    /// Where it begins. If that is [`RestStart::Surplus`], it is the command line of another program,
+    /// and shells complete it so. If it is [`RestStart::Separated`], it is the words after the
+    /// separator `--`, and shells offer the names of files.
+    pub start: RestStart,
+    /// Its placeholder in the usage line, in the help and in messages: that of the other program,
+    /// such as `COMMAND`, or that of each word after the separator, such as `PATH`.
     pub placeholder: &'a str,
     /// Its help text. If it has no word, the help has no entry for it.
     pub help: &'a str,
-    /// Whether every legal line has it.
+    /// Whether every legal line has it, with a word at least.
     pub required: bool,
 }
 
-/// Declared options and positionals, and after them a rest: the command line of another program,
-/// which this one runs.
+/// Declared options and positionals, and after them a rest, which has all words to the end of the
+/// line, even those that look like options. It is `Copy`.
 ///
-/// The rest begins with the first word that is one positional too many for the declaration, and has
-/// all words after it, even those that look like options. So the declaration allows a fixed number
-/// of positionals, such as the one of `timeout DURATION COMMAND [ARGUMENT]...`, or none, as that of
-/// `nohup COMMAND [ARGUMENT]...`. If it allows any number, no line has a rest. It is `Copy`.
+/// With [`RestStart::Surplus`] the rest begins with the first word that is one positional too many
+/// for the declaration. So the declaration allows a fixed number of positionals, such as the one of
+/// `timeout DURATION COMMAND [ARGUMENT]...`, or none, as that of `nohup COMMAND [ARGUMENT]...`. If it
+/// allows any number, no line has a rest.
+///
+/// With [`RestStart::Separated`] the rest begins after the separator `--`, as that of
+/// `log [REVISION]... [-- PATH...]`, and the declaration may allow any number of positionals before
+/// it.
 ///
 /// # Examples
 ///
 /// ```rust
-/// use lexopt_commands::{Rest, Wrapper, WrapperAnswer};
+/// use lexopt_commands::{Rest, RestStart, Wrapper, WrapperAnswer};
 /// use std::io;
 ///
 /// const COMMAND: Rest<'static> = Rest {
+///     start: RestStart::Surplus,
 ///     placeholder: "COMMAND",
 ///     help: "what to run",
 ///     required: true,
@@ -65,7 +76,7 @@ pub struct Wrapper<'a, F, V = Infallible, P = Infallible, M = Infallible, S = In
     rest: Rest<'a>,
 }
 
-/// What a program that runs another one has to do about a line or a request. The types of keys are
+/// What a program whose line ends with a rest has to do about a line or a request. The types of keys are
 /// those of [`Wrapper`].
 #[derive(Debug, Drop)]
 pub enum WrapperAnswer<'a, F, V = Infallible, P = Infallible, M = Infallible, S = Infallible> {
@@ -105,13 +116,24 @@ fn rest_count(required: bool) -> Count
     }
 }
 
-// The first word of the rest, as the help shows it.
-fn rest_positional(rest: Rest<'_>) -> Positional<'_, ()>
-    ensures { positional_view result ≡ rest_positional rest.entry }
+// The placeholder of the rest in the usage line and in the help, such as `COMMAND` or `-- PATH...`.
+fn rest_mark(alloc: Global, rest: Rest<'_>) -> Result<String, AllocError>
+    ensures { IfOk result (λ mark. string_bytes mark ≡ rest_mark rest.entry) }
+{
+    let Rest { placeholder, .. } = rest;
+    match rest.start {
+        RestStart::Surplus => String::from_str(alloc, placeholder),
+        RestStart::Separated => format!(in alloc; "-- {placeholder}..."),
+    }
+}
+
+// The rest, or its first word, as the help shows it with this placeholder.
+fn rest_positional<'a>(mark: &'a str, rest: Rest<'a>) -> Positional<'a, ()>
+    ensures { positional_view result ≡ rest_positional mark.now rest.entry }
 {
     Positional {
         key: (),
-        placeholder: rest.placeholder,
+        placeholder: mark,
         count: rest_count(rest.required),
         help: rest.help,
         words: Words::Files,
@@ -119,7 +141,7 @@ fn rest_positional(rest: Rest<'_>) -> Positional<'_, ()>
     }
 }
 
-// The words after it, as the help shows them.
+// The words after the first of a command line, as the help shows them.
 fn argument_positional() -> Positional<'static, ()>
     ensures { positional_view result ≡ argument_positional }
 {
@@ -148,47 +170,52 @@ fn declared_positionals<'a, P>(
     Ok(all)
 }
 
-// The declared positionals, without their keys, and those of the rest.
+// The declared positionals, without their keys, and those of the rest, with this placeholder.
 fn all_positionals<'a, P>(
     alloc: Global,
     positionals: &[Positional<'a, P>],
+    mark: &'a str,
     rest: Rest<'a>,
 ) -> Result<Vec<Positional<'a, ()>>, AllocError>
-    ensures { IfOk result (λ all. map positional_view all.items ≡ map positional_view positionals.now
-        ++ rest_positional rest.entry ∷ argument_positional ∷ []) }
+    ensures { IfOk result (λ all. map positional_view all.items
+        ≡ map positional_view positionals.now ++ rest_positionals mark.now rest.entry) }
 {
     let mut all = declared_positionals(alloc, positionals)?;
-    all.push(rest_positional(rest))?;
-    all.push(argument_positional())?;
+    all.push(rest_positional(mark, rest))?;
+    match rest.start {
+        RestStart::Surplus => all.push(argument_positional())?,
+        RestStart::Separated => {}
+    }
     Ok(all)
 }
 
-// Where the rest begins, in words: `count` words less those of the rest.
-fn words_before(count: usize, rest: &[OsString]) -> usize
-    ensures { result ≡ count - length rest.now }
-{
-    count.saturating_sub(rest.len())
-}
-
-// The line by which a shell completes a command line that begins after this many words.
+// The line by which a shell completes a command line of which this many words come before the one
+// that is typed.
 fn command_line(alloc: Global, count: usize) -> Result<String, AllocError>
     ensures { IfOk result (λ text. string_bytes text ≡ command_line count) }
 {
     format!(in alloc; "command\t{count}\n")
 }
 
-// This text, and that line if this holds.
-fn with_command_line(
-    alloc: Global,
-    text: String,
-    begins: bool,
-    count: usize,
-) -> Result<String, AllocError>
+// The line by which a shell completes a rest of which this many words come before the one that is
+// typed.
+fn rest_line(alloc: Global, start: RestStart, count: usize) -> Result<String, AllocError>
+    ensures { IfOk result (λ text. string_bytes text ≡ rest_line start count) }
+{
+    match start {
+        RestStart::Surplus => command_line(alloc, count),
+        RestStart::Separated => String::from_str(alloc, "files\n"),
+    }
+}
+
+// This text, and the line for a command line that begins with the word that is typed if this holds.
+fn with_command_line(alloc: Global, text: String, begins: bool) -> Result<String, AllocError>
     ensures { IfOk result (λ all. string_bytes all
-        ≡ string_bytes text ++ (if begins then command_line count else [])) }
+        ≡ string_bytes text ++ (if begins then command_line 0 else [])) }
 {
     if begins {
-        format!(in alloc; "{text}command\t{count}\n")
+        let line = command_line(alloc, 0)?;
+        format!(in alloc; "{text}{line}")
     } else {
         Ok(text)
     }
@@ -201,6 +228,30 @@ fn can_begin(begins_rest: bool, typed: &OsString) -> bool
     match typed.as_bytes() {
         [b'-', ..] => false,
         _ => begins_rest,
+    }
+}
+
+// What can come where this is typed after words without a rest: this text, or the line for a rest that
+// can begin there.
+fn text_before(
+    alloc: Global,
+    start: RestStart,
+    text: String,
+    begins: bool,
+    typed: &OsString,
+) -> Result<String, AllocError>
+    ensures { IfOk result (λ all.
+        string_bytes all ≡ text_before start (string_bytes text) begins typed.now) }
+{
+    match start {
+        RestStart::Surplus => with_command_line(alloc, text, can_begin(begins, typed)),
+        RestStart::Separated => {
+            if begins {
+                String::from_str(alloc, "files\n")
+            } else {
+                Ok(text)
+            }
+        }
     }
 }
 
@@ -253,8 +304,8 @@ impl<'a, F, V, P, M, S> Wrapper<'a, F, V, P, M, S> {
     }
 
     /// Returns the usage of the program, wrapped to `width` columns: that of the declaration. A usage
-    /// line that is generated ends with the placeholder of the rest, in brackets if it is not
-    /// required, and `[ARGUMENT]...`.
+    /// line that is generated ends with the rest: `COMMAND [ARGUMENT]...` or `-- PATH...`, with its
+    /// placeholder, and in brackets if it is not required.
     ///
     /// # Errors
     ///
@@ -262,7 +313,9 @@ impl<'a, F, V, P, M, S> Wrapper<'a, F, V, P, M, S> {
     pub fn usage(&self, alloc: Global, width: usize) -> Result<String, AllocError>
         ensures { IfOk result (λ text. IsUsage width (whole_of self.now) (string_bytes text)) }
     {
-        let positionals = all_positionals(alloc, self.options.positionals(), self.rest)?;
+        let mark = rest_mark(alloc, self.rest)?;
+        let declared = self.options.positionals();
+        let positionals = all_positionals(alloc, declared, mark.as_str(), self.rest)?;
         help::usage(alloc, &self.declaration(&positionals), width)
     }
 
@@ -291,7 +344,9 @@ impl<'a, F, V, P, M, S> Wrapper<'a, F, V, P, M, S> {
     pub fn help(&self, alloc: Global, width: usize) -> Result<String, AllocError>
         ensures { IfOk result (λ text. IsHelp (whole_of self.now) width (string_bytes text)) }
     {
-        let positionals = all_positionals(alloc, self.options.positionals(), self.rest)?;
+        let mark = rest_mark(alloc, self.rest)?;
+        let declared = self.options.positionals();
+        let positionals = all_positionals(alloc, declared, mark.as_str(), self.rest)?;
         help::help(alloc, &self.declaration(&positionals), width)
     }
 
@@ -314,10 +369,14 @@ impl<'a, F, V, P, M, S> Wrapper<'a, F, V, P, M, S> {
     /// Returns what can come where `typed` is typed after `words`, as the scripts for shells read
     /// it.
     ///
-    /// If the words have no rest, that is the text of `Options::completion_text`; and if a word that
-    /// begins so can begin the rest, a line `command`, a tab and the number of these words after
-    /// it. If they have one, it is that line alone, with the number of the words before the rest.
-    /// By it the shell completes the words after that many as a command line of their own.
+    /// For a rest that is a command line: if the words have no rest, that is the text of
+    /// `Options::completion_text`; and if a word that begins so can begin the rest, a line
+    /// `command`, a tab and `0` after it. If they have one, it is that line alone, with the number of
+    /// the words of the rest. By it the shell completes that many words before the one that is typed,
+    /// and this, as a command line of their own.
+    ///
+    /// For a rest after the separator: if there is a separator among the words, that is the line
+    /// `files`; otherwise the text of `Options::completion_text`.
     ///
     /// # Errors
     ///
@@ -331,12 +390,12 @@ impl<'a, F, V, P, M, S> Wrapper<'a, F, V, P, M, S> {
         ensures { IfOk result (λ text.
             IsWrapperText self.now words.items typed.now (string_bytes text)) }
     {
-        let count = words.len();
-        let found = complete_rest(alloc, &self.options, words, typed)?;
+        let start = self.rest.start;
+        let found = complete_rest(alloc, &self.options, start, words, typed)?;
         match found {
-            RestCompletion::Rest(rest) => command_line(alloc, words_before(count, &rest)),
+            RestCompletion::Rest(rest) => rest_line(alloc, start, rest.len()),
             RestCompletion::Text { text, begins_rest } => {
-                with_command_line(alloc, text, can_begin(begins_rest, typed), count)
+                text_before(alloc, start, text, begins_rest, typed)
             }
         }
     }
@@ -357,7 +416,8 @@ impl<'a, F: Copy, V: Copy, P: Copy, M: Copy, S: Copy> Wrapper<'a, F, V, P, M, S>
         rest: Vec<OsString>,
     ) -> WrapperAnswer<'a, F, V, P, M, S>
         ensures { (words : List (List ℕ)) (width : ℕ)
-            → IsRestRead self.now.options words rest.items (line.Parsed parsed)
+            → IsRestRead (start_view self.now.rest.start) self.now.options words rest.items
+            (line.Parsed parsed)
             → IsWrapperAnswer self.now words width result }
     {
         if self.rest.required && rest.is_empty() {
@@ -388,7 +448,7 @@ impl<'a, F: Copy, V: Copy, P: Copy, M: Copy, S: Copy> Wrapper<'a, F, V, P, M, S>
     ) -> Result<WrapperAnswer<'a, F, V, P, M, S>, AllocError>
         ensures { IfOk result (λ answer. IsWrapperAnswer self.now words.items width answer) }
     {
-        let (line, rest) = read_rest(alloc, &self.options, words)?;
+        let (line, rest) = read_rest(alloc, &self.options, self.rest.start, words)?;
         match line {
             Line::Parsed(parsed) => Ok(self.answer_rest(parsed, rest)),
             Line::Asked(asked) => {

@@ -11,6 +11,7 @@ use Rattle.lexopt_options_spec.specs.Places.{least, required}
 use Rattle.lexopt_options_spec.specs.Stops.{required_placeholder}
 use Rattle.lexopt_declaration.specs.declared.declaration.Positional.{Positional}
 use Rattle.lexopt_declaration.specs.Models.{count_view, positional_view}
+use Rattle.lexopt_declaration.proofs.Hinted.{filter_viewed}
 
 unlimited_is : {P : Type 0} (ps : List (Positional P)) → list_any (λ p. may_repeat (count_view p.count)) ps ≡ list_any (λ (p : spec.Positional). may_repeat p.count) (map positional_view ps)
 unlimited_is ps = sym (list_any-map positional_view (λ (p : spec.Positional). may_repeat p.count) ps)
@@ -22,13 +23,8 @@ pub limited : {P : Type 0} (ps : List (Positional P)) → list_any (λ p. may_re
 limited ps is = ap (λ n. Some n) (sym (length-map ps positional_view))
     ∙ ap (λ (b : Bool). if b then None else Some (length (map positional_view ps))) (sym is ∙ unlimited_is ps)
 
-kept : {P : Type 0} (b : Bool) (x : Positional P) (xs : List (Positional P)) (ys : List spec.Positional) → length xs ≡ length ys → length (if b then x ∷ xs else xs) ≡ length (if b then positional_view x ∷ ys else ys)
-kept true x xs ys is = ap (λ n. suc n) is
-kept false x xs ys is = is
-
 pub required_are : {P : Type 0} (ps : List (Positional P)) → length (filter (λ p. has_to_occur (count_view p.count)) ps) ≡ least (map positional_view ps)
-required_are [] = refl
-required_are (p ∷ ps) = kept (has_to_occur (count_view p.count)) p _ _ (required_are ps)
+required_are ps = sym (length-map _ positional_view) ∙ ap length (filter_viewed positional_view (λ (p : spec.Positional). has_to_occur p.count) ps)
 
 -- ---- the required positional with a number
 

@@ -217,8 +217,8 @@ pub struct Declared<'a, F, V = Infallible, M = Infallible, S = Infallible> {
     /// The heading in the help for this option and those after it, up to the next that has one. It
     /// is left out with an option that is hidden. It is empty if the option has none.
     pub heading: &'a str,
-    /// Whether the help and its usage line leave it out, shells do not offer its names, and no hint
-    /// has its long name. Lines may have it all the same.
+    /// Whether the help and its usage line leave it out, shells offer its names only where they are
+    /// typed whole, and no hint has its long name. Lines may have it all the same.
     pub hidden: bool,
     /// Whether every legal line has it.
     pub required: bool,
@@ -226,8 +226,8 @@ pub struct Declared<'a, F, V = Infallible, M = Infallible, S = Infallible> {
     pub words: Words<'a>,
     /// Whether the help leaves out the list.
     pub hides_list: bool,
-    /// Further names, by which lines may have it too. The help, messages, hints and shells show its
-    /// own names only.
+    /// Further names, by which lines may have it too. The help, messages and hints show its own names
+    /// only, and shells offer these only where they are typed whole.
     pub aliases: &'a [Names<'a>],
 }
 

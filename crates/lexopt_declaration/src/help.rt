@@ -173,23 +173,6 @@ fn push_lines(
     Ok(())
 }
 
-// Adds words as `push_lines`, and a line feed.
-fn push_whole_lines(
-    out: &mut String,
-    first: &str,
-    others: &[&str],
-    limit: usize,
-    column: usize,
-) -> Result<(), AllocError>
-    ensures { IfOk result (λ _. (lines : List spec.Line)
-        × Wraps limit (first.now ∷ map (λ w. w.now) others.now) lines
-        × (string_bytes out.new
-        ≡ string_bytes out.old ++ (spec.below column lines ++ spec.line_feed ∷ []))) }
-{
-    push_lines(out, first, others, limit, column)?;
-    out.push('\n')
-}
-
 // Adds what comes between a label and its help text.
 fn push_gap(out: &mut String, label: &str, column: usize) -> Result<(), AllocError>
     ensures { IfOk result (λ _. string_bytes out.new
@@ -341,19 +324,12 @@ fn option_entries<F, V, M, S>(
     Ok(text)
 }
 
-// Whether a text begins with an empty line.
-fn begins_apart(text: &str) -> bool
-    ensures { result ≡ starts_with (λ a b. a == b) text.now (spec.line_feed ∷ []) }
-{
-    text.as_bytes().starts_with(b"\n")
-}
-
 // Adds the entries of options after an empty line, with which a heading begins.
 fn push_options_part(out: &mut String, entries: &str) -> Result<(), AllocError>
     ensures { IfOk result (λ _.
         string_bytes out.new ≡ string_bytes out.old ++ spec.options_part entries.now) }
 {
-    if begins_apart(entries) {
+    if entries.as_bytes().starts_with(b"\n") {
         return out.push_str(entries);
     }
     push_apart(out, entries)
@@ -428,19 +404,11 @@ pub fn push_paragraph(
         × (string_bytes out.new ≡ string_bytes out.old ++ text)) }
 {
     let words = words_of(alloc, content)?;
-    push_paragraph_lines(out, words.as_slice(), width)
-}
-
-// Adds a paragraph of these words.
-fn push_paragraph_lines(out: &mut String, words: &[&str], width: usize) -> Result<(), AllocError>
-    ensures { IfOk result (λ _. (lines : List spec.Line)
-        × Wraps width (map (λ w. w.now) words.now) lines
-        × (string_bytes out.new ≡ string_bytes out.old ++ spec.paragraph lines)) }
-{
-    let [first, others @ ..] = words else {
+    let [first, others @ ..] = words.as_slice() else {
         return Ok(());
     };
-    push_whole_lines(out, first, others, width, 0)
+    push_lines(out, first, others, width, 0)?;
+    out.push('\n')
 }
 
 /// Adds a part of the help, after an empty line. Adds nothing if the part is empty.
@@ -635,7 +603,8 @@ fn push_usage_line(
         × (string_bytes out.new ≡ string_bytes out.old ++ line)) }
 {
     let limit = width.saturating_sub(USAGE_COLUMN);
-    push_whole_lines(out, program, words, limit, USAGE_COLUMN)
+    push_lines(out, program, words, limit, USAGE_COLUMN)?;
+    out.push('\n')
 }
 
 // Adds a usage line of the program's own, without how it begins.
@@ -729,25 +698,6 @@ pub fn usage<F, V, P, M, S>(
     Ok(text)
 }
 
-// Adds the help.
-fn push_help<F, V, P, M, S>(
-    out: &mut String,
-    alloc: Global,
-    declaration: &Declaration<'_, F, V, P, M, S>,
-    width: usize,
-) -> Result<(), AllocError>
-    ensures { IfOk result (λ _. (text : List ℕ)
-        × IsHelp (declaration_view declaration.now) width text
-        × (string_bytes out.new ≡ string_bytes out.old ++ text)) }
-{
-    push_usage(out, alloc, declaration, width)?;
-    push_paragraph(out, alloc, declaration.about, width)?;
-    let positionals = positional_entries(alloc, declaration.positionals, width)?;
-    push_apart(out, positionals.as_str())?;
-    push_options(out, alloc, declaration.options, width)?;
-    push_epilogue(out, alloc, declaration.epilogue, width)
-}
-
 /// Returns the help, wrapped to `width` columns.
 ///
 /// # Errors
@@ -761,7 +711,11 @@ pub fn help<F, V, P, M, S>(
     ensures { IfOk result (λ text.
         IsHelp (declaration_view declaration.now) width (string_bytes text)) }
 {
-    let mut text = String::new(alloc);
-    push_help(&mut text, alloc, declaration, width)?;
+    let mut text = usage(alloc, declaration, width)?;
+    push_paragraph(&mut text, alloc, declaration.about, width)?;
+    let positionals = positional_entries(alloc, declaration.positionals, width)?;
+    push_apart(&mut text, positionals.as_str())?;
+    push_options(&mut text, alloc, declaration.options, width)?;
+    push_epilogue(&mut text, alloc, declaration.epilogue, width)?;
     Ok(text)
 }

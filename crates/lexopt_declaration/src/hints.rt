@@ -43,21 +43,6 @@ fn write_names<W: fmt::Write>(
     }
 }
 
-// Writes the end of a message with several names.
-fn write_several<W: fmt::Write>(
-    dashes: &str,
-    names: &[&str],
-    f: &mut fmt::Formatter<W>,
-) -> fmt::Result
-    ensures { WritesOnOk W.write_str_gives f.old result (codes "; did you mean one of "
-        ++ (list_text (map (λ name. name_in_quotes dashes.now name.now) names.now) ++ codes "?"))
-        f.new }
-{
-    f.write_str("; did you mean one of ")?;
-    write_names(dashes, names, f)?;
-    f.write_str("?")
-}
-
 /// Writes the end of a message: the names that may have been meant, if there are any, with `dashes`
 /// before each.
 pub fn write_hints<W: fmt::Write>(
@@ -74,6 +59,10 @@ pub fn write_hints<W: fmt::Write>(
             let name = Escaped(name);
             write!(f, "; did you mean '{dashes}{name}'?")
         }
-        _ => write_several(dashes, names, f),
+        _ => {
+            f.write_str("; did you mean one of ")?;
+            write_names(dashes, names, f)?;
+            f.write_str("?")
+        }
     }
 }

@@ -1,33 +1,11 @@
 //! Finds an option by its name, and the names of the option at an index.
-ghost use Rattle.std.specs.Prelude.{◌≡◌, map, position, true};
-ghost use Rattle.std.specs.List.{list_any};
+ghost use Rattle.std.specs.Prelude.{◌≡◌, map, position};
 ghost use Rattle.lexopt_line_spec.specs.Table as table;
-ghost use Rattle.lexopt_options_spec.specs.Declaration.{index_of, is_one_of, is_sound, share};
-ghost use Rattle.lexopt_declaration.specs.Models.{names_list, option_view};
+ghost use Rattle.lexopt_options_spec.specs.Declaration.{has_name, index_of};
+ghost use Rattle.lexopt_declaration.specs.Models.{option_view};
 ghost use Rattle.lexopt_declaration.specs.Lookups.{has_alias, help_names, is_help, names_at};
 
 use crate::declaration::{Declared, Kind, Names};
-
-// The index of the first option whose own names have this character.
-fn place_of_short<F, V, M, S>(
-    options: &[Declared<'_, F, V, M, S>],
-    character: char,
-) -> Option<usize>
-    ensures { result
-        ≡ position (λ o. is_one_of (names_list o.names) (table.short character)) options.now }
-{
-    options
-        .iter()
-        .position(|option| option.names.is_short(character))
-}
-
-// The index of the first option whose own names have this name.
-fn place_of_long<F, V, M, S>(options: &[Declared<'_, F, V, M, S>], name: &str) -> Option<usize>
-    ensures { result
-        ≡ position (λ o. is_one_of (names_list o.names) (table.long name.now)) options.now }
-{
-    options.iter().position(|option| option.names.is_long(name))
-}
 
 /// Returns whether a further name of this option is one of these.
 pub fn has_alias<F, V, M, S>(option: &Declared<'_, F, V, M, S>, names: Names<'_>) -> bool
@@ -36,16 +14,39 @@ pub fn has_alias<F, V, M, S>(option: &Declared<'_, F, V, M, S>, names: Names<'_>
     option.aliases.iter().any(|alias| names.shares(*alias))
 }
 
-// The index of the first option of which a further name is one of these. It is not inlined, so that
-// the search for an own name stays small.
-#[inline(never)]
-fn place_of_alias<F, V, M, S>(
-    options: &[Declared<'_, F, V, M, S>],
-    names: Names<'_>,
-) -> Option<usize>
-    ensures { result ≡ position (λ o. has_alias names.entry o) options.now }
+// Whether the option has this character, as its own or as a further name.
+fn has_short<F, V, M, S>(option: &Declared<'_, F, V, M, S>, character: char) -> bool
+    ensures { result ≡ has_name (table.short character) (option_view option.now) }
 {
-    options.iter().position(|option| has_alias(option, names))
+    option.names.is_short(character) || has_alias(option, Names::Short(character))
+}
+
+// Whether the option has this long name, as its own or as a further one.
+fn has_long<F, V, M, S>(option: &Declared<'_, F, V, M, S>, name: &str) -> bool
+    ensures { result ≡ has_name (table.long name.now) (option_view option.now) }
+{
+    option.names.is_long(name) || has_alias(option, Names::Long(name))
+}
+
+// The index of the first option with this character.
+fn place_of_short<F, V, M, S>(
+    options: &[Declared<'_, F, V, M, S>],
+    character: char,
+) -> Option<usize>
+    ensures { result
+        ≡ position (λ o. has_name (table.short character) (option_view o)) options.now }
+{
+    options
+        .iter()
+        .position(|option| has_short(option, character))
+}
+
+// The index of the first option with this long name.
+fn place_of_long<F, V, M, S>(options: &[Declared<'_, F, V, M, S>], name: &str) -> Option<usize>
+    ensures { result
+        ≡ position (λ o. has_name (table.long name.now) (option_view o)) options.now }
+{
+    options.iter().position(|option| has_long(option, name))
 }
 
 /// Returns the index of the option with this character, counted from 0; `None` if there is none.
@@ -53,24 +54,16 @@ pub fn index_of_short<F, V, M, S>(
     options: &[Declared<'_, F, V, M, S>],
     character: char,
 ) -> Option<usize>
-    requires { is_sound (map option_view options.now) ≡ true }
     ensures { result ≡ index_of (map option_view options.now) (table.short character) }
 {
-    match place_of_short(options, character) {
-        Some(index) => Some(index),
-        None => place_of_alias(options, Names::Short(character)),
-    }
+    place_of_short(options, character)
 }
 
 /// Returns the index of the option with this name, counted from 0; `None` if there is none.
 pub fn index_of_long<F, V, M, S>(options: &[Declared<'_, F, V, M, S>], name: &str) -> Option<usize>
-    requires { is_sound (map option_view options.now) ≡ true }
     ensures { result ≡ index_of (map option_view options.now) (table.long name.now) }
 {
-    match place_of_long(options, name) {
-        Some(index) => Some(index),
-        None => place_of_alias(options, Names::Long(name)),
-    }
+    place_of_long(options, name)
 }
 
 /// Returns the names of the option at this index.

@@ -37,6 +37,7 @@ fn is_unlimited<P>(positionals: &[Positional<'_, P>]) -> bool
 }
 
 /// Returns how many positionals a line may have; `None` if there is no limit.
+#[tactic(auto, using(crate::proofs::Counting::limited, crate::proofs::Counting::unlimited))]
 pub fn most_of<P>(positionals: &[Positional<'_, P>]) -> Option<usize>
     ensures { result ≡ most (map positional_view positionals.now) }
 {
@@ -60,6 +61,7 @@ fn required_count<P>(positionals: &[Positional<'_, P>]) -> usize
 }
 
 /// Returns how many positionals are required.
+#[tactic(auto, using(crate::proofs::Counting::required_are))]
 pub fn least_of<P>(positionals: &[Positional<'_, P>]) -> usize
     ensures { result ≡ least (map positional_view positionals.now) }
 {

@@ -107,9 +107,9 @@ pub fn variable(alloc: Global, program: &str) -> Result<String, AllocError>
 ///   and fish show what comes after the tab.
 /// - For the line `files` it offers the names of files, and for the line `directories` those of
 ///   directories. If a tab and a text come after that, the names come after this text in the word.
-/// - For the line `command`, a tab and a number, it completes the words after that many words of the
-///   line as a command line of their own. bash does so by the package bash-completion; without it,
-///   bash offers the names of files.
+/// - For the line `command`, a tab and a number, it completes that many words before the one that is
+///   typed, and this, as a command line of their own. bash does so by the package bash-completion;
+///   without it, bash offers the names of files.
 ///
 /// If the program fails, the shell offers what it offers without the script, such as the names of
 /// files.
@@ -254,8 +254,8 @@ _complete_§() {
                 [[ ${#COMPREPLY[@]} == 1 && ${COMPREPLY[0]} == */ ]] && compopt -o nospace
                 ;;
             command)
-                # The words after this many are a command line of their own. The package
-                # bash-completion completes it.
+                # This many words and the one that is typed are a command line of their own. The
+                # package bash-completion completes it.
                 if ! declare -F _command_offset >/dev/null; then
                     compopt -o bashdefault -o default
                     return
@@ -263,7 +263,7 @@ _complete_§() {
                 index=0 line=$COMP_LINE
                 while ((index < COMP_CWORD)); do
                     line=${line#*"${COMP_WORDS[index]}"}
-                    ((${#COMP_LINE} - ${#line} > begins[start + 1])) && break
+                    ((${#COMP_LINE} - ${#line} > begins[${#words[@]} - start])) && break
                     ((index += 1))
                 done
                 _command_offset "$index"
@@ -306,9 +306,9 @@ _§() {
             files) names=(_files) start=$text ;;
             directories) names=(_path_files -/) start=$text ;;
             command)
-                # The words after this many are a command line of their own.
-                shift $((text + 1)) words
-                ((CURRENT -= text + 1))
+                # This many words and the one that is typed are a command line of their own.
+                shift $((CURRENT - text - 1)) words
+                ((CURRENT = text + 1))
                 _normal
                 return
                 ;;
@@ -385,8 +385,8 @@ function __complete_§
                 test $parts[1] = directories; and set names (string match '*/' -- $names)
                 string join \n -- $start$names
             case command
-                # The words after this many are a command line of their own.
-                set -l first (math $parts[2] + 2)
+                # This many words and the one that is typed are a command line of their own.
+                set -l first (math (count $words) - $parts[2])
                 set -l before
                 test $first -lt (count $words); and set before (string escape -- $words[$first..-2])
                 complete --do-complete "$before $token"

@@ -1,13 +1,16 @@
-//! The spellings of options, and the values in lists, that begin with what was typed.
-ghost use Rattle.std.specs.Prelude.{◌≡◌, ◌∷◌, ◌++◌, [], IfOk, OnOk, filter, map, nat_eq};
-ghost use Rattle.std.specs.Prelude.{string_bytes};
-ghost use Rattle.std.specs.List.{starts_with};
+//! The spellings of options that are offered where something is typed, and the values in lists that
+//! begin with it.
+ghost use Rattle.std.specs.Prelude.{◌≡◌, ◌∷◌, ◌++◌, [], IfOk, OnOk, false, filter, map, nat_eq};
+ghost use Rattle.std.specs.Prelude.{ℕ, List, string_bytes};
+ghost use Rattle.std.specs.List.{flat_map, starts_with};
 ghost use Rattle.lexopt_line_spec.specs.Table as table;
 ghost use Rattle.lexopt_options_spec.specs.Completion as spec;
-ghost use Rattle.lexopt_options_spec.specs.Completion.{AreText, spelling};
-ghost use Rattle.lexopt_declaration.specs.Models.{option_view, spelling_view, words_view};
+ghost use Rattle.lexopt_options_spec.specs.Completion.{AreText, offered, spelled, spelled_by};
+ghost use Rattle.lexopt_options_spec.specs.Completion.{spelling, spellings};
+ghost use Rattle.lexopt_declaration.specs.Models.{names_list, option_view, spelling_view};
+ghost use Rattle.lexopt_declaration.specs.Models.{words_view};
 
-use crate::declaration::{Declared, Words, are_text};
+use crate::declaration::{Declared, Names, Words, are_text};
 use std::alloc::{AllocError, Global};
 
 /// A word that is an option without a value.
@@ -33,24 +36,80 @@ fn long_spelling(alloc: Global, name: &str) -> Result<String, AllocError>
     format!(in alloc; "--{name}")
 }
 
-// Adds a spelling of an option if it begins with what was typed.
+// Whether a spelling is offered: one that is shown, if it begins with what was typed; any other, if
+// it was typed whole.
+fn is_offered(text: &str, shown: bool, typed: &[u8]) -> bool
+    ensures { (help : List ℕ) → result ≡ spec.is_offered typed.now
+        (record { text = text.now; help = help; shown = shown }) }
+{
+    if shown {
+        text.as_bytes().starts_with(typed)
+    } else {
+        text.as_bytes() == typed
+    }
+}
+
+// Adds a spelling of an option if it is offered.
 fn add_spelling<'a>(
     spellings: &mut Vec<Spelling<'a>>,
     text: String,
     help: &'a str,
+    shown: bool,
     typed: &[u8],
 ) -> Result<(), AllocError>
     ensures { OnOk result (map spelling_view spellings.new.items
-        ≡ map spelling_view spellings.old.items
-        ++ filter (λ p. starts_with nat_eq p.0 typed.now) ((string_bytes text, help.now) ∷ [])) }
+        ≡ map spelling_view spellings.old.items ++ offered typed.now
+        (record { text = string_bytes text; help = help.now; shown = shown } ∷ [])) }
 {
-    if text.as_bytes().starts_with(typed) {
+    if is_offered(text.as_str(), shown, typed) {
         spellings.push(Spelling { text, help })?;
     }
     Ok(())
 }
 
-// Adds the spellings of an option that begin with what was typed.
+// Adds the spellings of these names of an option that are offered.
+fn add_names<'a>(
+    alloc: Global,
+    spellings: &mut Vec<Spelling<'a>>,
+    names: Names<'_>,
+    help: &'a str,
+    shown: bool,
+    typed: &[u8],
+) -> Result<(), AllocError>
+    ensures { OnOk result (map spelling_view spellings.new.items
+        ≡ map spelling_view spellings.old.items
+        ++ offered typed.now (spelled help.now shown (names_list names.entry))) }
+{
+    if let Some(character) = names.short() {
+        let text = short_spelling(alloc, character)?;
+        add_spelling(spellings, text, help, shown, typed)?;
+    }
+    if let Some(name) = names.long() {
+        let text = long_spelling(alloc, name)?;
+        add_spelling(spellings, text, help, shown, typed)?;
+    }
+    Ok(())
+}
+
+// Adds the spellings of these aliases of an option that are offered.
+fn add_aliases<'a>(
+    alloc: Global,
+    spellings: &mut Vec<Spelling<'a>>,
+    aliases: &[Names<'_>],
+    help: &'a str,
+    typed: &[u8],
+) -> Result<(), AllocError>
+    ensures { OnOk result (map spelling_view spellings.new.items
+        ≡ map spelling_view spellings.old.items
+        ++ offered typed.now (spelled help.now false (flat_map names_list aliases.now))) }
+{
+    for names in aliases {
+        add_names(alloc, spellings, *names, help, false, typed)?;
+    }
+    Ok(())
+}
+
+// Adds the spellings of an option that are offered.
 fn add_spellings<'a, F, V, M, S>(
     alloc: Global,
     spellings: &mut Vec<Spelling<'a>>,
@@ -59,25 +118,14 @@ fn add_spellings<'a, F, V, M, S>(
 ) -> Result<(), AllocError>
     ensures { OnOk result (map spelling_view spellings.new.items
         ≡ map spelling_view spellings.old.items
-        ++ filter (λ p. starts_with nat_eq p.0 typed.now)
-        (spec.explained_by (option_view option.now))) }
+        ++ offered typed.now (spelled_by (option_view option.now))) }
 {
-    if let Some(character) = option.names.short() {
-        add_spelling(
-            spellings,
-            short_spelling(alloc, character)?,
-            option.help,
-            typed,
-        )?;
-    }
-    if let Some(name) = option.names.long() {
-        add_spelling(spellings, long_spelling(alloc, name)?, option.help, typed)?;
-    }
-    Ok(())
+    let shown = !option.hidden;
+    add_names(alloc, spellings, option.names, option.help, shown, typed)?;
+    add_aliases(alloc, spellings, option.aliases, option.help, typed)
 }
 
-/// Returns those spellings of options that are not hidden which begin with what was typed, in
-/// order.
+/// Returns those spellings of options that are offered where something was typed, in order.
 ///
 /// # Errors
 ///
@@ -88,16 +136,12 @@ pub fn spellings_of<'a, F, V, M, S>(
     typed: &[u8],
 ) -> Result<Vec<Spelling<'a>>, AllocError>
     ensures text { AreText (map option_view options.now) }
-    ensures spellings { IfOk result (λ spellings. map spelling_view spellings.items
-        ≡ filter (λ p. starts_with nat_eq p.0 typed.now)
-        (spec.explained (map option_view options.now))) }
+    ensures spellings { IfOk result (λ found. map spelling_view found.items
+        ≡ offered typed.now (spellings (map option_view options.now))) }
 {
     are_text(options);
     let mut spellings = Vec::new(alloc);
     for option in options {
-        if option.hidden {
-            continue;
-        }
         add_spellings(alloc, &mut spellings, option, typed)?;
     }
     Ok(spellings)

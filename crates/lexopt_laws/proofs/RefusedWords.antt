@@ -10,8 +10,8 @@ use Rattle.lexopt_line_spec.specs.Readings.{ReadsFirst, ReadsItems, start}
 use Rattle.lexopt_options_spec.specs.Declaration.{Declaration, Positional, Words, accepts, files, directories, text, listed, is_sound, table}
 use Rattle.lexopt_options_spec.specs.Legal.{Parsed, Means, MeansFront, option, several, positional, are_accepted, counts, is_option, most, positional_count, positional_words}
 use Rattle.lexopt_options_spec.specs.Places.{ArePlaces, AreTaken, IsNotTaken, least, refused_word, takes_at}
-use Rattle.lexopt_options_spec.specs.Stops.{Mistake, ReadsUpTo, Stops, StopsAt, invalid_argument, invalid_value, missing_argument, missing_option, missing_value, unexpected_argument, unexpected_value, unknown_option, not_declared, value_of_flag, no_value, not_accepted, one_too_many, too_few, not_taken, not_complete}
-use Rattle.lexopt_options_spec.proofs.Fronts.{ComesTo, comes_to, front_later, no_front, not_refused, one_front}
+use Rattle.lexopt_options_spec.specs.Stops.{Mistake, ReadsUpTo, Stops, StopsAt, invalid_argument, not_declared, value_of_flag, no_value, not_accepted, one_too_many, too_few, not_taken, not_complete}
+use Rattle.lexopt_options_spec.proofs.Fronts.{ComesTo, comes_to, front_later, StopsEarly, no_front, not_refused, one_front}
 use Rattle.lexopt_options_spec.proofs.Shares.{one_places}
 use Rattle.lexopt_options_spec.proofs.Taken.{none_first, not_both, one_refused, same_within, some_pair, words_count}
 use Rattle.lexopt_laws.specs.ListedValues.{IsFirstRefused}
@@ -166,29 +166,13 @@ value_read d words l k there v s index value front accepted read one of refused 
 the_stop : (d : Declaration) (words : List (List ℕ)) (l : List Parsed) (i : ℕ) (word : List ℕ) → IsRead d words l i word → (k : List Parsed) (mistake other : Mistake) (there : ComesTo d words k mistake) → mistake ≡ other
     → Stops d k there.there other → (k ≡ l) × (other ≡ invalid_argument i word)
 the_stop d words l i word is k mistake other there m_is (not_declared name v step none) =
-    absurd (no_front d words k mistake there
-    (λ count same. let e : unknown_option name v.tail ≡ missing_argument count = sym m_is ∙ same in cc)
-    (λ index same. let e : unknown_option name v.tail ≡ missing_option index = sym m_is ∙ same in cc)
-    (λ index value same. let e : unknown_option name v.tail ≡ invalid_value index value = sym m_is ∙ same in cc)
-    (λ index w same. let e : unknown_option name v.tail ≡ invalid_argument index w = sym m_is ∙ same in cc) l is.front)
+    absurd (no_front d words k mistake there (subst StopsEarly (sym m_is) tt) l is.front)
 the_stop d words l i word is k mistake other there m_is (value_of_flag name value v step) =
-    absurd (no_front d words k mistake there
-    (λ count same. let e : unexpected_value name value ≡ missing_argument count = sym m_is ∙ same in cc)
-    (λ index same. let e : unexpected_value name value ≡ missing_option index = sym m_is ∙ same in cc)
-    (λ index val same. let e : unexpected_value name value ≡ invalid_value index val = sym m_is ∙ same in cc)
-    (λ index w same. let e : unexpected_value name value ≡ invalid_argument index w = sym m_is ∙ same in cc) l is.front)
+    absurd (no_front d words k mistake there (subst StopsEarly (sym m_is) tt) l is.front)
 the_stop d words l i word is k mistake other there m_is (no_value name index shown call v w step found due takes) =
-    absurd (no_front d words k mistake there
-    (λ count same. let e : missing_value index shown ≡ missing_argument count = sym m_is ∙ same in cc)
-    (λ j same. let e : missing_value index shown ≡ missing_option j = sym m_is ∙ same in cc)
-    (λ j value same. let e : missing_value index shown ≡ invalid_value j value = sym m_is ∙ same in cc)
-    (λ j x same. let e : missing_value index shown ≡ invalid_argument j x = sym m_is ∙ same in cc) l is.front)
+    absurd (no_front d words k mistake there (subst StopsEarly (sym m_is) tt) l is.front)
 the_stop d words l i word is k mistake other there m_is (one_too_many x v step limit) =
-    absurd (no_front d words k mistake there
-    (λ count same. let e : unexpected_argument x ≡ missing_argument count = sym m_is ∙ same in cc)
-    (λ index same. let e : unexpected_argument x ≡ missing_option index = sym m_is ∙ same in cc)
-    (λ index value same. let e : unexpected_argument x ≡ invalid_value index value = sym m_is ∙ same in cc)
-    (λ index w same. let e : unexpected_argument x ≡ invalid_argument index w = sym m_is ∙ same in cc) l is.front)
+    absurd (no_front d words k mistake there (subst StopsEarly (sym m_is) tt) l is.front)
 the_stop d words l i word is k mistake other there m_is (not_accepted s index value v read of refused) =
     absurd (value_read d words l k there.there v s index value is.front is.accepted there.read read of (λ rest accepted. not_refused d.options k s rest value accepted refused))
 the_stop d words l i word is k mistake other there m_is (too_few v step few) =

@@ -1,5 +1,5 @@
 -- What can come after short lines.
-use Rattle.std.proofs.Common.{◌≡◌, ℕ, ◌==◌, ◌||◌, true, false, List, [], ◌∷◌, ◌++◌, map, Option, Some, None, codes, refl, sym, ap, subst, ◌∙◌, true≢false, lit≤}
+use Rattle.std.proofs.Common.{◌≡◌, ℕ, ◌==◌, ◌||◌, true, false, List, [], ◌∷◌, ◌++◌, filter, map, Some, None, codes, refl, sym, ap, subst, ◌∙◌, true≢false, lit≤}
 use Rattle.std.specs.Prelude.{Contains}
 use Rattle.std.specs.Char.{IsScalar}
 use Rattle.std.specs.Str.{IsUtf8, is_utf8}
@@ -16,9 +16,8 @@ use Rattle.lexopt_line_spec.proofs.Computing.{computing}
 use Rattle.lexopt_line_spec.proofs.Worked.{last_of, cluster_line, plain_front_is, some}
 use Rattle.lexopt_options_spec.specs.Declaration.{Declaration, Declared, all_names, has_name, is_name, is_one_of, table}
 use Rattle.lexopt_options_spec.specs.Legal.{Parsed, option, several, parsed_item, positional_count, most, IsWithin}
-use Rattle.lexopt_options_spec.specs.Completion.{AreText, CanOccur, Completes, IsOpen, IsText, spellings}
-use Rattle.lexopt_options_spec.specs.Help.{visible}
-use Rattle.lexopt_options_spec.proofs.Offered.{completes_shown, occurs_offered, spellings_by}
+use Rattle.lexopt_options_spec.specs.Completion.{AreText, CanOccur, Completes, IsOpen, IsText, Spelled, is_offered, spellings, texts}
+use Rattle.lexopt_options_spec.proofs.Offered.{completes_offered, occurs_offered}
 use Rattle.lexopt_options_spec.proofs.Sound.{either}
 use Rattle.lexopt_options_spec.proofs.Occurs.{AreNamed}
 use Rattle.lexopt_options_spec.proofs.Tables.{name_is, pointwise_refl}
@@ -129,9 +128,12 @@ not_listed s xs is (i, within, same) =
     true≢false (sym (list_any_at (λ w. pointwise ◌==◌ w s) xs i s within (subst P (sym same) (pointwise_refl s))) ∙ is)
 
 -- no other spelling can come next
-pub not_offered : (d : Declaration) (words : List (List ℕ)) (s : List ℕ) → list_any (λ w. pointwise ◌==◌ w s) (spellings_by all_names d.options) ≡ false → CanOccur d words s → ⊥
-not_offered d words s none possible = not_listed s (spellings_by all_names d.options) none (occurs_offered d words s possible)
+pub not_offered : (d : Declaration) (words : List (List ℕ)) (s : List ℕ) → list_any (λ o. pointwise ◌==◌ o.text s) (spellings d.options) ≡ false → CanOccur d words s → ⊥
+not_offered d words s none possible =
+    let (own, (i, within, here), same) = occurs_offered d words s possible in
+    let P : Spelled → Type 0 = λ o. pointwise ◌==◌ o.text s ≡ true in
+    true≢false (sym (list_any_at (λ o. pointwise ◌==◌ o.text s) (spellings d.options) i own within (subst P (sym here) (subst (λ t. pointwise ◌==◌ t s ≡ true) (sym same) (pointwise_refl s)))) ∙ none)
 
--- nor does one complete that is not shown
-pub not_completed : (d : Declaration) (words : List (List ℕ)) (typed s : List ℕ) → list_any (λ w. pointwise ◌==◌ w s) (spellings (visible d.options)) ≡ false → Completes d words typed s → ⊥
-not_completed d words typed s none completes = not_listed s (spellings (visible d.options)) none (completes_shown d words typed s completes)
+-- nor does one complete that is not offered
+pub not_completed : (d : Declaration) (words : List (List ℕ)) (typed s : List ℕ) → list_any (λ w. pointwise ◌==◌ w s) (texts (filter (is_offered typed) (spellings d.options))) ≡ false → Completes d words typed s → ⊥
+not_completed d words typed s none completes = not_listed s (texts (filter (is_offered typed) (spellings d.options))) none (completes_offered d words typed s completes)

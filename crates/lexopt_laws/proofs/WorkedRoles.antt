@@ -15,7 +15,7 @@ use Rattle.lexopt_line_spec.proofs.SpellerRows.{plain_off}
 use Rattle.lexopt_line_spec.proofs.Worked.{last_of, flag_of, value_after, cluster_line, joined_line, plain_line, plain_front_is, some, stops, reads_first, reads_joined, misses_values}
 use Rattle.lexopt_options_spec.specs.Declaration.{Declaration, Positional, table}
 use Rattle.lexopt_options_spec.specs.Legal.{Parsed, MeansFront, IsWithin, most, parsed_item, positional_count, positional_words, option, several, positional}
-use Rattle.lexopt_options_spec.specs.Stops.{StopsAt, unknown_option, missing_value, unexpected_value, missing_argument, missing_option, invalid_argument, invalid_value, not_declared, value_of_flag}
+use Rattle.lexopt_options_spec.specs.Stops.{StopsAt, unknown_option, missing_value, unexpected_value, not_declared, value_of_flag}
 use Rattle.lexopt_options_spec.specs.Stops as stop
 use Rattle.lexopt_options_spec.specs.Completion.{HasRole, IsOpen, IsOption, JoinsValue, value_of}
 use Rattle.lexopt_options_spec.specs.States.{State, anything, due, first, further, ended, Says, Leaves, leaves_anything, leaves_due, leaves_first, leaves_further, leaves_ended, LeadsNowhere, role_in}
@@ -71,7 +71,7 @@ unfolding kind computing
 means_no_value l means =
     let stops : StopsAt (sample [] true) (codes "-o" ∷ []) [] (missing_value 1 (codes "-o")) =
     at_first (stop.no_value (short 0x6F) 1 (codes "-o") value _ _ (inl (reads_first _ 0x6F [] [] refl refl refl refl)) refl refl (inl (nothing_to_take refl refl refl refl))) in
-    no_front _ _ [] (missing_value 1 (codes "-o")) (comes_to stops) (λ count same. let e : missing_value 1 (codes "-o") ≡ missing_argument count = same in cc) (λ index same. let e : missing_value 1 (codes "-o") ≡ missing_option index = same in cc) (λ index value same. let e : missing_value 1 (codes "-o") ≡ invalid_value index value = same in cc) (λ index word same. let e : missing_value 1 (codes "-o") ≡ invalid_argument index word = same in cc) l means
+    no_front _ _ [] (missing_value 1 (codes "-o")) (comes_to stops) tt l means
 
 pub value_leaves : Leaves (sample [] true) (codes "-o" ∷ []) [] (due 1)
 unfolding kind computing
@@ -85,7 +85,7 @@ unfolding kind computing
 means_no_values more stop_there l means =
     let stops : StopsAt (sample [] true) (codes "-x" ∷ more) [] (missing_value 3 (codes "-x")) =
     at_first (stop.no_value (short 0x78) 3 (codes "-x") (values 1) _ _ (inl (reads_first _ 0x78 [] more refl refl refl refl)) refl (1, refl) (inl (misses_values 1 _ refl stop_there))) in
-    no_front _ _ [] (missing_value 3 (codes "-x")) (comes_to stops) (λ count same. let e : missing_value 3 (codes "-x") ≡ missing_argument count = same in cc) (λ index same. let e : missing_value 3 (codes "-x") ≡ missing_option index = same in cc) (λ index value same. let e : missing_value 3 (codes "-x") ≡ invalid_value index value = same in cc) (λ index word same. let e : missing_value 3 (codes "-x") ≡ invalid_argument index word = same in cc) l means
+    no_front _ _ [] (missing_value 3 (codes "-x")) (comes_to stops) tt l means
 
 pub several_leaves : Leaves (sample [] true) (codes "-x" ∷ []) [] (first 3)
 unfolding kind computing
@@ -125,7 +125,7 @@ unfolding kind computing
 no_unknown more l means =
     let stops : StopsAt (sample (files ∷ []) true) (codes "-z" ∷ more) [] (unknown_option (short 0x7A) no_tail) =
     at_first (not_declared (short 0x7A) _ (inl (reads_first _ 0x7A [] more refl refl refl refl)) refl) in
-    no_front _ _ [] (unknown_option (short 0x7A) no_tail) (comes_to stops) (λ count same. let e : unknown_option (short 0x7A) no_tail ≡ missing_argument count = same in cc) (λ index same. let e : unknown_option (short 0x7A) no_tail ≡ missing_option index = same in cc) (λ index value same. let e : unknown_option (short 0x7A) no_tail ≡ invalid_value index value = same in cc) (λ index word same. let e : unknown_option (short 0x7A) no_tail ≡ invalid_argument index word = same in cc) l means
+    no_front _ _ [] (unknown_option (short 0x7A) no_tail) (comes_to stops) tt l means
 
 pub unknown_nowhere : LeadsNowhere (sample (files ∷ []) true) (codes "-z" ∷ [])
 unknown_nowhere = record { here = no_unknown []; with_more = λ w. no_unknown (w ∷ []) }
@@ -153,8 +153,7 @@ verbose_means_nothing l means =
     let stops : StopsAt (sample [] true) (codes "--verbose=fi" ∷ []) (option 0 None ∷ []) (unexpected_value (codes "--verbose") (codes "fi")) =
     after_flag (long (codes "verbose")) 0 _ refl refl (lit≤ tt) (inl (reads_joined _ (codes "verbose") (codes "fi") [] refl refl refl refl))
     (value_of_flag (codes "--verbose") (codes "fi") _ (inl (joined_value (codes "fi") (codes "--verbose") refl refl refl refl))) in
-    no_front _ _ (option 0 None ∷ []) (unexpected_value (codes "--verbose") (codes "fi")) (comes_to stops)
-    (λ count same. let e : unexpected_value (codes "--verbose") (codes "fi") ≡ missing_argument count = same in cc) (λ index same. let e : unexpected_value (codes "--verbose") (codes "fi") ≡ missing_option index = same in cc) (λ index value same. let e : unexpected_value (codes "--verbose") (codes "fi") ≡ invalid_value index value = same in cc) (λ index word same. let e : unexpected_value (codes "--verbose") (codes "fi") ≡ invalid_argument index word = same in cc) l means
+    no_front _ _ (option 0 None ∷ []) (unexpected_value (codes "--verbose") (codes "fi")) (comes_to stops) tt l means
 
 -- `-vofi`, `-o=fi` under both settings, `-xa` and `-b`
 pub cluster_means : MeansFront (sample [] true) (codes "-vofi" ∷ []) (option 0 None ∷ option 1 (Some (codes "fi")) ∷ [])

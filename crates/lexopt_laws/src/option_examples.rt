@@ -15,7 +15,7 @@ ghost use Rattle.lexopt_options_spec.specs.Completion.{AreText, CanOccur, Comple
 ghost use Rattle.lexopt_options_spec.specs.Completion.{IsOption, IsText, spelling};
 ghost use Rattle.lexopt_options_spec.specs.Completion.{EndsWith, Extends, HasRole, IsJoined};
 ghost use Rattle.lexopt_options_spec.specs.Completion.{argument};
-ghost use Rattle.lexopt_options_spec.specs.Completion.{role_of, spellings, value_of};
+ghost use Rattle.lexopt_options_spec.specs.Completion.{role_of, spellings, texts, value_of};
 ghost use Rattle.lexopt_options_spec.specs.Examples.{joined_after};
 ghost use Rattle.lexopt_options_spec.specs.Completion.{value};
 ghost use Rattle.lexopt_options_spec.specs.Declaration.{Asked, Declaration, names_of};
@@ -916,7 +916,7 @@ fn spellings_are_listed()
     ensures both { names_of verbose ≡ short 0x76 ∷ long (codes "verbose") ∷ [] }
     ensures long_name_alone { names_of (named (codes "quiet")) ≡ long (codes "quiet") ∷ [] }
     ensures character_alone { names_of (record verbose { long_name = None }) ≡ short 0x76 ∷ [] }
-    ensures all { spellings sample_options ≡ codes "-v" ∷ codes "--verbose" ∷ codes "-o"
+    ensures all { texts (spellings sample_options) ≡ codes "-v" ∷ codes "--verbose" ∷ codes "-o"
         ∷ codes "--output" ∷ codes "-b" ∷ codes "--backup" ∷ codes "-x" ∷ codes "--exclude" ∷ [] }
     ensures option { IsOption 1 (option 1 (Some (codes "x"))) }
     ensures several { IsOption 3 (several 3 (codes "a" ∷ [])) }
@@ -999,7 +999,9 @@ fn what_is_typed_is_completed()
         (codes "--user") }
     ensures beside_a_hidden_option { Completes hiding_sample [] (codes "--") (codes "--verbose") }
     ensures hidden_option { Completes hiding_sample [] (codes "--") (codes "--output") → ⊥ }
-    ensures hidden_character { Completes hiding_sample [] (codes "-o") (codes "-o") → ⊥ }
+    ensures front_of_a_hidden_option { Completes hiding_sample [] (codes "--outpu")
+        (codes "--output") → ⊥ }
+    ensures whole_hidden_option { Completes hiding_sample [] (codes "-o") (codes "-o") }
     ensures another { Completes (sample [] true) [] (codes "--in") (codes "--output") → ⊥ }
     ensures no_option { Completes (sample [] true) [] (codes "-z") (codes "-z") → ⊥ }
     ensures part_of_a_character { (d : Declaration) (words : List (List ℕ))

@@ -9,7 +9,7 @@ ghost use Rattle.lexopt_options_spec.specs.Completion.{HasRole, Role};
 ghost use Rattle.lexopt_options_spec.specs.Declaration.{Asked, Declaration, Declared, Positional};
 ghost use Rattle.lexopt_options_spec.specs.Declaration.{accepts, has_name, index_of, is_sound};
 ghost use Rattle.lexopt_options_spec.specs.Declaration.{are_listable, listed};
-ghost use Rattle.lexopt_options_spec.specs.Rest.{HaveNoRest, IsSplit};
+ghost use Rattle.lexopt_options_spec.specs.Rest.{HaveNoRest, IsSplit, RestStart, surplus};
 ghost use Rattle.lexopt_options_spec.specs.Legal.{IsWithin, Parsed, Means, MeansFront};
 ghost use Rattle.lexopt_options_spec.specs.Legal.{are_accepted, is_option, most, occurs};
 ghost use Rattle.lexopt_options_spec.specs.Legal.{positional_count, positional_words};
@@ -178,17 +178,17 @@ pub fn words_can_belong_to_one_list_of_positionals()
         → AreOwnersIn ps role owners → AreOwnersIn ps role others → owners ≡ others }
 {}
 
-/// There is at most one way to split words into a front and a rest, and none if they are a front
-/// themselves. If an option of the words has a mistake, they have no rest after a front that is a
-/// legal line.
+/// There is at most one way to split words into a front and a rest that starts so. Words that are a
+/// front themselves have no surplus positional. If an option of the words has a mistake, they have no
+/// rest after a front that is a legal line.
 pub fn words_have_one_rest()
-    ensures one { (d : Declaration) (words front other : List (List ℕ)) (word first : List ℕ)
-        (more left : List (List ℕ)) → IsSplit d words front word more
-        → IsSplit d words other first left → (front ≡ other) × (word ∷ more ≡ first ∷ left) }
+    ensures one { (start : RestStart) (d : Declaration) (words front other : List (List ℕ))
+        (word first : List ℕ) (more left : List (List ℕ)) → IsSplit start d words front word more
+        → IsSplit start d words other first left → (front ≡ other) × (word ∷ more ≡ first ∷ left) }
     ensures alone { (d : Declaration) (words : List (List ℕ)) (l : List Parsed)
-        → MeansFront d words l → HaveNoRest d words }
-    ensures none { (d : Declaration) (words front : List (List ℕ)) (word : List ℕ)
-        (more : List (List ℕ)) (l m : List Parsed) (mistake : Mistake)
-        → StopsAt d words m mistake → IsOfOption mistake → IsSplit d words front word more
+        → MeansFront d words l → HaveNoRest surplus d words }
+    ensures none { (start : RestStart) (d : Declaration) (words front : List (List ℕ))
+        (word : List ℕ) (more : List (List ℕ)) (l m : List Parsed) (mistake : Mistake)
+        → StopsAt d words m mistake → IsOfOption mistake → IsSplit start d words front word more
         → Means d front l → ⊥ }
 {}

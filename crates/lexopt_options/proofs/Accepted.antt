@@ -6,7 +6,7 @@ use Rattle.std.specs.Cmp.Lexicographic.{pointwise}
 use Rattle.std.specs.Borrow.{Bor}
 use Rattle.std.proofs.lemmas.Bool.{false≢true}
 use Rattle.std.proofs.lemmas.List.Quantifiers.{position-Some}
-use Rattle.std.proofs.lemmas.Option.{slice_get-map, slice_get-get_or}
+use Rattle.std.proofs.lemmas.Option.{slice_get-map, slice_get-get_or, slice_get_read}
 use Rattle.lexopt_options_spec.specs.Completion.{list_of}
 use Rattle.lexopt_options_spec.specs.Declaration as spec
 use Rattle.lexopt_options_spec.specs.Legal as legal
@@ -37,13 +37,13 @@ refused_list spec.directories value is = absurd (false≢true (sym is))
 refused_list spec.text value is = absurd (false≢true (sym is))
 refused_list (spec.listed values) value is = refl
 
-none_never : (values : List (List ℕ)) → position (λ (v : List ℕ). false) values ≡ None
-none_never [] = refl
-none_never (v ∷ values) = go (position (λ (w : List ℕ). false) (v ∷ values)) refl
+none_found : (p : List ℕ → Bool) (values : List (List ℕ)) → ((v : List ℕ) → p v ≡ false) → position p values ≡ None
+none_found p [] never = refl
+none_found p (v ∷ values) never = go (position p (v ∷ values)) refl
   where
-    go : (o : Option ℕ) → position (λ (w : List ℕ). false) (v ∷ values) ≡ o → position (λ (w : List ℕ). false) (v ∷ values) ≡ None
+    go : (o : Option ℕ) → position p (v ∷ values) ≡ o → position p (v ∷ values) ≡ None
     go None is = is
-    go (Some i) is = absurd (false≢true (position-Some (λ (w : List ℕ). false) (v ∷ values) i v is).1)
+    go (Some i) is = absurd (false≢true (sym (never _) ∙ (position-Some p (v ∷ values) i v is).1))
 
 -- a place that was found in a list has a value
 pub first_there : (p : List ℕ → Bool) (values : List (List ℕ)) → is_none (option_and_then (λ n. slice_get values n) (position p values)) ≡ is_none (position p values)
@@ -60,7 +60,7 @@ none_cond false value = refl
 
 -- the element at an index
 pub at_place : {X : Type 0} (xs : List X) (i : ℕ) (x : X) → i < length xs → x ≡ get_or xs i x → slice_get xs i ≡ Some x
-at_place xs i x within is = slice_get-get_or xs i x within ∙ ap (λ y. Some y) (sym is)
+at_place xs i x within is = slice_get_read xs (length xs) i x refl within is
 
 pub none_is : (o : Option ℕ) (b : Bool) → is_some o ≡ not b → b ≡ is_none o
 none_is None true is = refl
@@ -92,17 +92,7 @@ first_refused options i o values n at is =
     ∙ ap (λ x. option_and_then (λ k. slice_get values k) x) (sym is)
 
 pub any_accepted : (words : spec.Words) (values : List (List ℕ)) → ((value : List ℕ) → spec.accepts words value ≡ true) → position (λ value. not (spec.accepts words value)) values ≡ None
-any_accepted spec.files values all = none_never values
-any_accepted spec.directories values all = none_never values
-any_accepted spec.text values all = none_never values
-any_accepted (spec.listed own) [] all = refl
-any_accepted (spec.listed own) (v ∷ values) all = go (position (λ value. not (spec.accepts (spec.listed own) value)) (v ∷ values)) refl
-  where
-    go : (r : Option ℕ) → position (λ value. not (spec.accepts (spec.listed own) value)) (v ∷ values) ≡ r → position (λ value. not (spec.accepts (spec.listed own) value)) (v ∷ values) ≡ None
-    go None is = is
-    go (Some i) is =
-        let at = position-Some (λ value. not (spec.accepts (spec.listed own) value)) (v ∷ values) i v is in
-        absurd (false≢true (sym (ap not (all (get_or (v ∷ values) i v))) ∙ at.1))
+any_accepted words values all = none_found (λ value. not (spec.accepts words value)) values (λ value. ap not (all value))
 
 not_true : (b : Bool) → not b ≡ true → b ≡ false
 not_true true is = absurd (false≢true is)

@@ -7,10 +7,9 @@ use Rattle.std.specs.Str.{IsUtf8}
 use Rattle.std.proofs.Common.{◌<◌, ◌==◌, ◌≢◌, encode_utf8, position}
 use Rattle.std.proofs.lemmas.Bool.{and_parts, eqb-true, false≢true}
 use Rattle.std.proofs.lemmas.List.Quantifiers.{position-Some}
-use Rattle.std.proofs.lemmas.List.{map-append}
 use Rattle.std.specs.declared.alloc.AllocError.{AllocError}
 use Rattle.lexopt_spec.specs.UnreadLine.{BeginsWith, dash}
-use Rattle.lexopt_options_spec.specs.Declaration.{Declaration, Declared, has_name, index_of, is_sound, names_of}
+use Rattle.lexopt_options_spec.specs.Declaration.{Declaration, Declared, has_name, index_of, is_sound}
 use Rattle.lexopt_options_spec.specs.Legal as legal
 use Rattle.lexopt_options_spec.specs.Legal.{MeansFront, parsed_item}
 use Rattle.lexopt_options_spec.proofs.Lists.{first_same, same_last}
@@ -20,8 +19,7 @@ use Rattle.lexopt_line_spec.specs.Spelling.{no_words, plain_word}
 use Rattle.lexopt_line_spec.specs.Table as table
 use Rattle.lexopt_line_spec.specs.Table.{Item, Name}
 use Rattle.lexopt_options_spec.specs.Completion as spec
-use Rattle.lexopt_options_spec.specs.Completion.{AreText, HasRole, IsJoined, IsOption, JoinsValue, explained, explained_by, joined_at, list_of, listed_by, offered_values, spelling, spellings, values_at}
-use Rattle.lexopt_options_spec.specs.Help.{visible}
+use Rattle.lexopt_options_spec.specs.Completion.{AreText, HasRole, IsJoined, IsOption, JoinsValue, is_offered, joined_at, list_of, listed_by, offered_values, spelling, spellings, texts, values_at}
 use Rattle.lexopt_options_spec.proofs.Roles.{extends}
 use Rattle.lexopt_options_spec.proofs.Occurs.{AreNamed, occurs_accepted, occurs_open, occurs_taken}
 use Rattle.lexopt_options_spec.proofs.Taken.{filled}
@@ -37,7 +35,7 @@ use Rattle.lexopt_declaration.specs.declared.declaration.Positional as rust_posi
 use Rattle.lexopt_declaration.specs.declared.declaration.Declared as rust
 use Rattle.lexopt_declaration.specs.declared.declaration.Names.{Names}
 use Rattle.lexopt_declaration.specs.declared.declaration.Names.TheVariants as names
-use Rattle.lexopt_options_spec.proofs.Offered.{kept, keeps, shown_completes, completes_shown}
+use Rattle.lexopt_options_spec.proofs.Offered.{completes_offered, offered_completes}
 use Rattle.lexopt_options.specs.Completions.{AreOffered, CanCome, Opens, joined_values, values_so, word_values, words_so}
 use Rattle.lexopt_options.specs.declared.complete.Joined.{Joined}
 use Rattle.lexopt_options.specs.declared.complete.Role.{Role}
@@ -75,47 +73,30 @@ all_named {F} {V} {M} {S} (o ∷ os) = (one o.names refl, all_named os)
     one (names.Long name) is = (table.long name.now, long_named (option_view o) name.now (ap long_name is))
     one (names.Both c name) is = (table.short c, short_named (option_view o) c (ap short_name is))
 
--- the spellings without their help texts
-firsts_kept : (q : List ℕ → Bool) (l : List (List ℕ × List ℕ)) → map (λ p. p.0) (filter (λ p. q p.0) l) ≡ filter q (map (λ p. p.0) l)
-firsts_kept q [] = refl
-firsts_kept q (x ∷ l) = elim (q x.0) as (λ b. map (λ (p : List ℕ × List ℕ). p.0) (if b then x ∷ filter (λ (p : List ℕ × List ℕ). q p.0) l else filter (λ (p : List ℕ × List ℕ). q p.0) l) ≡ (if b then x.0 ∷ filter q (map (λ (p : List ℕ × List ℕ). p.0) l) else filter q (map (λ (p : List ℕ × List ℕ). p.0) l)))
-    [ true ↦ ap (λ m. x.0 ∷ m) (firsts_kept q l) | false ↦ firsts_kept q l ]
-
-firsts_of : (help : List ℕ) (names : List Name) → map (λ (p : List ℕ × List ℕ). p.0) (map (λ n. (spelling n, help)) names) ≡ map spelling names
-firsts_of help [] = refl
-firsts_of help (n ∷ names) = ap (λ l. spelling n ∷ l) (firsts_of help names)
-
-firsts_spelled : (options : List Declared) → map (λ p. p.0) (flat_map explained_by options) ≡ spellings options
-firsts_spelled [] = refl
-firsts_spelled (o ∷ options) =
-    map-append (λ (p : List ℕ × List ℕ). p.0) (explained_by o) (flat_map explained_by options) ∙ ap (λ l. l ++ map (λ (p : List ℕ × List ℕ). p.0) (flat_map explained_by options)) (firsts_of o.help (names_of o))
-    ∙ ap (λ l. map spelling (names_of o) ++ l) (firsts_spelled options)
-
-firsts_are : (typed : List ℕ) (options : List Declared) (list : List (List ℕ × List ℕ)) → list ≡ filter (λ p. starts_with nat_eq p.0 typed) (explained options) → map (λ p. p.0) list ≡ filter (λ s. starts_with nat_eq s typed) (spellings (visible options))
-firsts_are typed options list is =
-    ap (map (λ (p : List ℕ × List ℕ). p.0)) is ∙ firsts_kept (λ s. starts_with nat_eq s typed) (explained options) ∙ ap (filter (λ s. starts_with nat_eq s typed)) (firsts_spelled (visible options))
+-- the spellings that are offered without their help texts
+firsts : (list : List spec.Spelled) → map (λ (p : List ℕ × List ℕ). p.0) (map (λ (s : spec.Spelled). (s.text, s.help)) list) ≡ texts list
+firsts [] = refl
+firsts (s ∷ list) = ap (λ l. s.text ∷ l) (firsts list)
 
 pub offered : (d : Declaration) (words : List (List ℕ)) (typed : List ℕ) (list : List (List ℕ × List ℕ)) → is_sound d.options ≡ true → are_listable d.positionals ≡ true → AreNamed d.options → IsUtf8 typed → CanCome d words true → AreText d.options
-    → list ≡ filter (λ p. starts_with nat_eq p.0 typed) (explained d.options) → AreOffered d words typed list
-offered d words typed list sound good named utf8 opens text is = record {
-  sound = λ s has.
-      let k = kept (λ x. starts_with nat_eq x typed) (spellings (visible d.options)) s (subst (λ x. Contains x s) (firsts_are typed d.options list is) has) in
-      let there = opens.0 refl in
-      shown_completes d words there.0 typed s sound text named there.1 there.2 (filled d.positionals (positional_words there.0) good there.3) utf8 k.1 k.0;
-  complete = λ s completes.
-      subst (λ x. Contains x s) (sym (firsts_are typed d.options list is))
-      (keeps (λ x. starts_with nat_eq x typed) (spellings (visible d.options)) s (completes_shown d words typed s completes) completes.begins);
-  in_order = inl is;
-}
+    → list ≡ spec.offered typed (spellings d.options) → AreOffered d words typed list
+offered d words typed list sound good named utf8 opens text is =
+    let words_are : map (λ p. p.0) list ≡ texts (filter (is_offered typed) (spellings d.options)) = ap (map (λ (p : List ℕ × List ℕ). p.0)) is ∙ firsts (filter (is_offered typed) (spellings d.options)) in
+    let there = opens.0 refl in
+    record {
+      sound = λ s has. offered_completes d words there.0 typed s sound text named there.1 there.2 (filled d.positionals (positional_words there.0) good there.3) utf8 (subst (λ x. Contains x s) words_are has);
+      complete = λ s completes. subst (λ x. Contains x s) (sym words_are) (completes_offered d words typed s completes);
+      in_order = inl is;
+    }
 
 -- the same for the spellings that a call returns, if this holds of the words
 pub offered_all : (d : Declaration) (typed : List ℕ) (r : Result (Vec Spelling Global) AllocError) (options : List Declared) (bytes : List ℕ) (P : List (List ℕ) → Type 0) → is_sound d.options ≡ true → are_listable d.positionals ≡ true → AreNamed d.options → IsUtf8 typed
     → ((words : List (List ℕ)) → P words → CanCome d words true)
-    → options ≡ d.options → bytes ≡ typed → AreText options → IfOk r (λ list. map spelling_view list.items ≡ filter (λ p. starts_with nat_eq p.0 bytes) (explained options))
+    → options ≡ d.options → bytes ≡ typed → AreText options → IfOk r (λ list. map spelling_view list.items ≡ spec.offered bytes (spellings options))
     → IfOk r (λ list. (words : List (List ℕ)) → P words → AreOffered d words typed (map spelling_view list.items))
 offered_all d typed (Ok list) options bytes P sound good named utf8 can are also text is = λ words so.
     offered d words typed (map spelling_view list.items) sound good named utf8 (can words so) (subst AreText are text)
-    (is ∙ ap (λ b. filter (λ p. starts_with nat_eq p.0 b) (explained options)) also ∙ ap (λ os. filter (λ p. starts_with nat_eq p.0 typed) (explained os)) are)
+    (is ∙ ap (λ b. spec.offered b (spellings options)) also ∙ ap (λ os. spec.offered typed (spellings os)) are)
 offered_all d typed (Err e) options bytes P sound good named utf8 can are also text is = tt
 
 none_there : (s : List ℕ) → Contains [] s → ⊥

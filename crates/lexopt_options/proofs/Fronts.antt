@@ -53,7 +53,7 @@ use Rattle.lexopt_options.specs.declared.front.State.TheVariants as state
 use Rattle.lexopt_options.proofs.Accepted.{at_place, first_refused, first_there, none_cond, view_there}
 use Rattle.lexopt_options.proofs.Keys.{found_within}
 use Rattle.lexopt_options.proofs.NoValue.{unexpected_never}
-use Rattle.lexopt_options.proofs.ReadKeys.{option_with}
+use Rattle.lexopt_options.proofs.ReadKeys.{before_separator, option_with}
 use Rattle.lexopt_options.proofs.ReadNext.{kind_of_index, more_within, no_count, option_item, option_parsed}
 
 -- ---- what was read last
@@ -216,7 +216,7 @@ fits table.optional v w values reads = tt
 -- one more option
 pub has_option : (d : Declaration) (s u v w : UnreadLine) (words : List (List ℕ)) (accepted own : Bool) (last : Option (ℕ × List ℕ)) (going : Option ℕ) (value : Option (List ℕ)) (goes_on : Bool) (name : Name) (index : ℕ)
     → is_sound d.options ≡ true → HasReached d s u words accepted last going → Next u (option_reply name) v → index_of d.options name ≡ Some index → IsAfterName d index v (after.Values own value goes_on) w
-    → HasReached d s w words (accepted && own) (with_index index value) (index_if goes_on index) × (bound w < bound u)
+    → HasReached d s w words (accepted && own) (with_index index value) (index_if goes_on index) × (bound w < bound u) × (w.ended ≡ false)
 has_option d s u v w words accepted own last going value goes_on name index sound has next found (k, values, k_is, reads, own_is, value_is, goes_is) = (
   record {
     l = has.l ++ parsed ∷ [];
@@ -226,6 +226,7 @@ has_option d s u v w words accepted own last going value goes_on name index soun
     last_is = read_last has.l index parsed value (option_with index values) value_is;
   },
   read.shorter,
+  before_separator d (positional_count has.l) u w parsed has.at.upto.line read (no_count index values),
 )
   where
     parsed : Parsed

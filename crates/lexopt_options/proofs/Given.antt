@@ -1,13 +1,10 @@
 -- The keys that are given to positionals.
-use Rattle.std.proofs.Common.{below_more, length-append, set, ◌≡◌, ◌≤◌, ◌<◌, ◌+◌, ℕ, zero, suc, Bool, true, false, List, [], ◌∷◌, length, take, drop, map, get_or, filter, Option, Some, slice_get, refl, sym, ap, subst, ◌∙◌, arith}
+use Rattle.std.proofs.Common.{below_more, length-append, set, if◌then◌else◌, take-append-drop, ◌≡◌, ◌≤◌, ◌<◌, ◌+◌, ℕ, suc, Bool, true, false, List, [], ◌∷◌, length, take, drop, map, get_or, filter, Option, Some, slice_get, refl, sym, ap, subst, ◌∙◌, arith}
 use Rattle.std.specs.List.{AllZip}
-use Rattle.std.proofs.Math.Seq.{take-nil}
-use Rattle.std.proofs.lemmas.Bool.{false≢true}
-use Rattle.std.proofs.lemmas.List.{drop_more, get_or_default, get_or-set_other, get_or-set_same, take_more}
+use Rattle.std.proofs.lemmas.List.{drop_all, get_or_default, get_or-set_other, get_or-set_same, take_more}
 use Rattle.lexopt_options_spec.specs.Legal.{IsWithin, most}
 use Rattle.lexopt_options_spec.proofs.Shares.{some_places}
 use Rattle.lexopt_options.proofs.ReadKeys.{keys_append}
-use Rattle.std.proofs.lemmas.Option.{get_or_from_slice_get, slice_get_within}
 use Rattle.lexopt_options_spec.specs.Legal as legal
 use Rattle.lexopt_options_spec.specs.Places.{ArePlaces}
 use Rattle.lexopt_declaration.specs.Models.{positional_view}
@@ -16,7 +13,7 @@ use Rattle.lexopt_declaration.specs.declared.declaration.Positional.{Positional}
 use Rattle.lexopt_options.specs.declared.parsed.Parsed.{Parsed}
 use Rattle.lexopt_options.specs.declared.parsed.Parsed.TheVariants as parsed
 use Rattle.lexopt_options.specs.Keys.{AreParsedAs, HasKey, HaveKeys, IsGiven, IsParsedAs, IsSame, is_positional, positional_keys}
-use Rattle.lexopt_options.proofs.Owners.{places_length}
+use Rattle.lexopt_options.proofs.Owners.{places_length, places_some}
 
 abbrev pub word_count : {F V P M S : Type 0} → List (Parsed F V P M S) → ℕ
 word_count xs = length (positional_keys xs)
@@ -39,17 +36,14 @@ given_one {F} {V} {P} {M} {S} positionals places n own old other word found own_
 
 -- ---- from each to all
 
--- two lists, compared element by element
-abbrev pub EachSame : {F V P M S : Type 0} → List (Parsed F V P M S) → List (Parsed F V P M S) → Type 0
-EachSame [] [] = Unit {0}
-EachSame (x ∷ xs) (y ∷ ys) = IsSame x y × EachSame xs ys
-EachSame xs ys = ⊥
+-- the second is the first with its key, where n words come before it
+abbrev pub Gives : {F V P M S : Type 0} → List (Positional P) → ℕ → ℕ → Parsed F V P M S → Parsed F V P M S → Type 0
+Gives positionals count n x y = IsSame x y × ((places : List ℕ) → ArePlaces (map positional_view positionals) count places → IsGiven positionals places n x y)
 
-pub each_same : {F V P M S : Type 0} (xs ys : List (Parsed F V P M S)) → length ys ≡ length xs → ((i : ℕ) (d : Parsed F V P M S) → i < length xs → IsSame (get_or xs i d) (get_or ys i d)) → EachSame xs ys
-each_same [] [] same at = tt
-each_same [] (y ∷ ys) same at = absurd (omega (arith, same))
-each_same (x ∷ xs) [] same at = absurd (omega (arith, same))
-each_same (x ∷ xs) (y ∷ ys) same at = (at 0 x (omega arith), each_same xs ys (omega (arith, same)) (λ i d below. at (suc i) d (omega (arith, below))))
+abbrev pub EachGives : {F V P M S : Type 0} → List (Positional P) → ℕ → ℕ → List (Parsed F V P M S) → List (Parsed F V P M S) → Type 0
+EachGives positionals count n [] [] = Unit {0}
+EachGives positionals count n (x ∷ xs) (y ∷ ys) = Gives positionals count n x y × EachGives positionals count (word_count (x ∷ []) + n) xs ys
+EachGives positionals count n xs ys = ⊥
 
 parsed_so : {F V P M S : Type 0} (options : List (Declared F V M S)) (s : legal.Parsed) (x y : Parsed F V P M S) → IsSame x y → IsParsedAs options s x → IsParsedAs options s y
 parsed_so options s (parsed.Flag key) y same is = subst (IsParsedAs options s) (sym same) is
@@ -59,56 +53,38 @@ parsed_so options s (parsed.Values key values) y same is = subst (IsParsedAs opt
 parsed_so options s (parsed.Positional key word) y same is = subst (IsParsedAs options s) (sym same.1) is
 
 -- what was read is still the same
-pub parsed_still : {F V P M S : Type 0} (options : List (Declared F V M S)) (l : List legal.Parsed) (xs ys : List (Parsed F V P M S)) → EachSame xs ys → AreParsedAs options l xs → AreParsedAs options l ys
-parsed_still options [] [] [] same are = tt
-parsed_still options [] [] (y ∷ ys) same are = absurd same
-parsed_still options [] (x ∷ xs) ys same are = absurd are
-parsed_still options (s ∷ l) [] ys same are = absurd are
-parsed_still options (s ∷ l) (x ∷ xs) [] same are = absurd same
-parsed_still options (s ∷ l) (x ∷ xs) (y ∷ ys) same are = (parsed_so options s x y same.0 are.0, parsed_still options l xs ys same.1 are.1)
-
-abbrev pub EachGiven : {F V P M S : Type 0} → List (Positional P) → List ℕ → ℕ → List (Parsed F V P M S) → List (Parsed F V P M S) → Type 0
-EachGiven positionals places n [] [] = Unit {0}
-EachGiven positionals places n (x ∷ xs) (y ∷ ys) = IsGiven positionals places n x y × EachGiven positionals places (word_count (x ∷ []) + n) xs ys
-EachGiven positionals places n xs ys = ⊥
+pub parsed_still : {F V P M S : Type 0} (positionals : List (Positional P)) (count n : ℕ) (options : List (Declared F V M S)) (l : List legal.Parsed) (xs ys : List (Parsed F V P M S)) → EachGives positionals count n xs ys
+    → AreParsedAs options l xs → AreParsedAs options l ys
+parsed_still positionals count n options [] [] [] each are = tt
+parsed_still positionals count n options [] [] (y ∷ ys) each are = absurd each
+parsed_still positionals count n options [] (x ∷ xs) ys each are = absurd are
+parsed_still positionals count n options (s ∷ l) [] ys each are = absurd are
+parsed_still positionals count n options (s ∷ l) (x ∷ xs) [] each are = absurd each
+parsed_still positionals count n options (s ∷ l) (x ∷ xs) (y ∷ ys) each are =
+    (parsed_so options s x y each.0.0 are.0, parsed_still positionals count (word_count (x ∷ []) + n) options l xs ys each.1 are.1)
 
 word_cons : {F V P M S : Type 0} (x : Parsed F V P M S) (xs : List (Parsed F V P M S)) → word_count (x ∷ xs) ≡ word_count (x ∷ []) + word_count xs
-word_cons (parsed.Flag key) xs = omega arith
-word_cons (parsed.Value key word) xs = omega arith
-word_cons (parsed.Maybe key value) xs = omega arith
-word_cons (parsed.Values key values) xs = omega arith
-word_cons (parsed.Positional key word) xs = omega arith
+word_cons x xs = ap length (keys_append (x ∷ []) xs) ∙ length-append (positional_keys (x ∷ [])) (positional_keys xs)
 
-pub each_given : {F V P M S : Type 0} (positionals : List (Positional P)) (places : List ℕ) (n : ℕ) (xs ys : List (Parsed F V P M S)) → length ys ≡ length xs
-    → ((i : ℕ) (d : Parsed F V P M S) → i < length xs → IsGiven positionals places (word_count (take i xs) + n) (get_or xs i d) (get_or ys i d)) → EachGiven positionals places n xs ys
-each_given positionals places n [] [] same at = tt
-each_given positionals places n [] (y ∷ ys) same at = absurd (omega (arith, same))
-each_given positionals places n (x ∷ xs) [] same at = absurd (omega (arith, same))
-each_given positionals places n (x ∷ xs) (y ∷ ys) same at = (
-  subst (λ k. IsGiven positionals places k x y) (omega arith) (at 0 x (omega arith)),
-  each_given positionals places (word_count (x ∷ []) + n) xs ys (omega (arith, same))
-      (λ i d below. subst (λ k. IsGiven positionals places k (get_or xs i d) (get_or ys i d)) (let e = word_cons x (take i xs) in omega (arith, e)) (at (suc i) d (omega (arith, below)))),
+each_gives : {F V P M S : Type 0} (positionals : List (Positional P)) (count n : ℕ) (xs ys : List (Parsed F V P M S)) → length ys ≡ length xs
+    → ((i : ℕ) (d : Parsed F V P M S) → i < length xs → Gives positionals count (word_count (take i xs) + n) (get_or xs i d) (get_or ys i d)) → EachGives positionals count n xs ys
+each_gives positionals count n [] [] same at = tt
+each_gives positionals count n [] (y ∷ ys) same at = absurd (omega (arith, same))
+each_gives positionals count n (x ∷ xs) [] same at = absurd (omega (arith, same))
+each_gives positionals count n (x ∷ xs) (y ∷ ys) same at = (
+  subst (λ k. Gives positionals count k x y) (omega arith) (at 0 x (omega arith)),
+  each_gives positionals count (word_count (x ∷ []) + n) xs ys (omega (arith, same))
+      (λ i d below. subst (λ k. Gives positionals count k (get_or xs i d) (get_or ys i d)) (let e = word_cons x (take i xs) in omega (arith, e)) (at (suc i) d (omega (arith, below)))),
 )
 
-places_from : (places : List ℕ) (n i : ℕ) → slice_get places n ≡ Some i → drop n places ≡ i ∷ drop (1 + n) places
-places_from places n i is =
-    let within = slice_get_within places n i is in
-    drop_more places n 0 within ∙ ap (λ x. x ∷ drop (n + 1) places) (get_or_from_slice_get places n i 0 is) ∙ ap (λ m. i ∷ drop m places) (omega arith)
-
-no_places : (places : List ℕ) (n : ℕ) → n ≡ length places → drop n places ≡ []
-no_places [] zero is = refl
-no_places [] (suc n) is = absurd (omega (arith, is))
-no_places (p ∷ places) zero is = absurd (omega (arith, is))
-no_places (p ∷ places) (suc n) is = no_places places n (omega (arith, is))
-
 -- the keys that were given, from the word at this index on
-pub given_keys : {F V P M S : Type 0} (positionals : List (Positional P)) (places : List ℕ) (n : ℕ) (xs ys : List (Parsed F V P M S)) → EachGiven positionals places n xs ys → word_count xs + n ≡ length places
+given_keys : {F V P M S : Type 0} (positionals : List (Positional P)) (count : ℕ) (places : List ℕ) (n : ℕ) (xs ys : List (Parsed F V P M S)) → ArePlaces (map positional_view positionals) count places → EachGives positionals count n xs ys → word_count xs + n ≡ length places
     → AllZip (HasKey positionals) (drop n places) (positional_keys ys)
-given_keys positionals places n [] [] given all = subst (λ l. AllZip (HasKey positionals) l []) (sym (no_places places n (omega (arith, all)))) tt
-given_keys positionals places n [] (y ∷ ys) given all = absurd given
-given_keys positionals places n (x ∷ xs) [] given all = absurd given
-given_keys positionals places n (x ∷ xs) (y ∷ ys) given all =
-    one x given.0 (given_keys positionals places (word_count (x ∷ []) + n) xs ys given.1 (let e = word_cons x xs in omega (arith, e, all)))
+given_keys positionals count places n [] [] are given all = subst (λ l. AllZip (HasKey positionals) l []) (sym (drop_all n places (omega (arith, all)))) tt
+given_keys positionals count places n [] (y ∷ ys) are given all = absurd given
+given_keys positionals count places n (x ∷ xs) [] are given all = absurd given
+given_keys positionals count places n (x ∷ xs) (y ∷ ys) are given all =
+    one x (given.0.1 places are) (given_keys positionals count places (word_count (x ∷ []) + n) xs ys are given.1 (let e = word_cons x xs in omega (arith, e, all)))
   where
     keys_of : (k : Parsed _ _ _ _ _) → y ≡ k → positional_keys (k ∷ ys) ≡ positional_keys (y ∷ ys)
     keys_of k is = ap (λ z. positional_keys (z ∷ ys)) (sym is)
@@ -121,14 +97,14 @@ given_keys positionals places n (x ∷ xs) (y ∷ ys) given all =
     one (parsed.Values key values) is rest = subst (AllZip (HasKey positionals) (drop n places)) (keys_of (parsed.Values key values) is) (subst (λ m. AllZip (HasKey positionals) (drop m places) (positional_keys ys)) (omega arith) rest)
     one (parsed.Positional key word) (k, i, is, at, has) rest =
         subst (AllZip (HasKey positionals) (drop n places)) (keys_of (parsed.Positional k word) is)
-        (subst (λ l. AllZip (HasKey positionals) l (k ∷ positional_keys ys)) (sym (places_from places n i at)) (has, rest))
+        (subst (λ l. AllZip (HasKey positionals) l (k ∷ positional_keys ys)) (sym (places_some places n i at ∙ ap (λ m. i ∷ drop m places) (omega arith))) (has, rest))
 
 -- there are as many positionals as before
-pub same_count : {F V P M S : Type 0} (xs ys : List (Parsed F V P M S)) → EachSame xs ys → word_count ys ≡ word_count xs
-same_count [] [] same = refl
-same_count [] (y ∷ ys) same = absurd same
-same_count (x ∷ xs) [] same = absurd same
-same_count (x ∷ xs) (y ∷ ys) same = one x same.0 (same_count xs ys same.1)
+same_count : {F V P M S : Type 0} (positionals : List (Positional P)) (count n : ℕ) (xs ys : List (Parsed F V P M S)) → EachGives positionals count n xs ys → word_count ys ≡ word_count xs
+same_count positionals count n [] [] same = refl
+same_count positionals count n [] (y ∷ ys) same = absurd same
+same_count positionals count n (x ∷ xs) [] same = absurd same
+same_count positionals count n (x ∷ xs) (y ∷ ys) same = one x same.0.0 (same_count positionals count (word_count (x ∷ []) + n) xs ys same.1)
   where
     keys_of : (k : Parsed _ _ _ _ _) → y ≡ k → word_count (y ∷ ys) ≡ word_count (k ∷ ys)
     keys_of k is = ap (λ z. word_count (z ∷ ys)) is
@@ -140,55 +116,30 @@ same_count (x ∷ xs) (y ∷ ys) same = one x same.0 (same_count xs ys same.1)
     one (parsed.Values key values) is rest = keys_of (parsed.Values key values) is ∙ rest
     one (parsed.Positional key word) (k, is) rest = keys_of (parsed.Positional k word) is ∙ ap suc rest
 
--- so the positionals have the keys of those that they belong to
-pub have_keys : {F V P M S : Type 0} (positionals : List (Positional P)) (xs ys : List (Parsed F V P M S)) (places : List ℕ) → ArePlaces (map positional_view positionals) (word_count xs) places → EachSame xs ys
-    → EachGiven positionals places 0 xs ys → HaveKeys positionals ys
-have_keys positionals xs ys places are same given = record {
-  places = places;
-  are_places = subst (λ n. ArePlaces (map positional_view positionals) n places) (sym (same_count xs ys same)) are;
-  have = given_keys positionals places 0 xs ys given (let e = places_length (map positional_view positionals) (word_count xs) places are in omega (arith, e));
-}
-
 -- ---- one after another
 
 -- each positional before this index has its key, and the others are as they were
 pub record AreDone {F V P M S : Type 0} (positionals : List (Positional P)) (count : ℕ) (xs ys : List (Parsed F V P M S)) (index word : ℕ) : Type 0 where
   pub counted : word ≡ word_count (take index xs)
-  pub same : (i : ℕ) → i < index → (d : Parsed F V P M S) → IsSame (get_or xs i d) (get_or ys i d)
-  pub given : (places : List ℕ) → ArePlaces (map positional_view positionals) count places → (i : ℕ) → i < index → (d : Parsed F V P M S)
-      → IsGiven positionals places (word_count (take i xs) + 0) (get_or xs i d) (get_or ys i d)
+  pub gives : (i : ℕ) → i < index → (d : Parsed F V P M S) → Gives positionals count (word_count (take i xs) + 0) (get_or xs i d) (get_or ys i d)
   pub later : (i : ℕ) → index ≤ i → (d : Parsed F V P M S) → get_or ys i d ≡ get_or xs i d
-
-one_word : {F V P M S : Type 0} (x : Parsed F V P M S) → is_positional x ≡ true → word_count (x ∷ []) ≡ 1
-one_word (parsed.Flag key) is = absurd (false≢true is)
-one_word (parsed.Value key word) is = absurd (false≢true is)
-one_word (parsed.Maybe key value) is = absurd (false≢true is)
-one_word (parsed.Values key values) is = absurd (false≢true is)
-one_word (parsed.Positional key word) is = refl
-
-no_word : {F V P M S : Type 0} (x : Parsed F V P M S) → is_positional x ≡ false → word_count (x ∷ []) ≡ 0
-no_word (parsed.Flag key) is = refl
-no_word (parsed.Value key word) is = refl
-no_word (parsed.Maybe key value) is = refl
-no_word (parsed.Values key values) is = refl
-no_word (parsed.Positional key word) is = absurd (false≢true (sym is))
 
 -- one more word, if this is a positional
 abbrev pub after : Bool → ℕ → ℕ
 after true n = n + 1
 after false n = n
 
+one_counted : {F V P M S : Type 0} (x : Parsed F V P M S) (b : Bool) → is_positional x ≡ b → word_count (x ∷ []) ≡ length (if b then x ∷ [] else [])
+one_counted x b is = sym (counted (x ∷ [])) ∙ ap (λ c. length (if c then x ∷ [] else [])) is
+
 one_after : {F V P M S : Type 0} (x : Parsed F V P M S) (b : Bool) (n : ℕ) → is_positional x ≡ b → after b n ≡ word_count (x ∷ []) + n
-one_after x true n is = let e = one_word x is in omega (arith, e)
-one_after x false n is = let e = no_word x is in omega (arith, e)
+one_after x true n is = let e = one_counted x true is in omega (arith, e)
+one_after x false n is = let e = one_counted x false is in omega (arith, e)
 
 take_count : {F V P M S : Type 0} (n : ℕ) (xs : List (Parsed F V P M S)) → word_count (take n xs) ≤ word_count xs
-take_count n xs = go n xs
-  where
-    go : {F V P M S : Type 0} (n : ℕ) (xs : List (Parsed F V P M S)) → word_count (take n xs) ≤ word_count xs
-    go {F} {V} {P} {M} {S} n [] = subst (λ (l : List (Parsed F V P M S)). word_count l ≤ 0) (sym (take-nil n)) (omega arith)
-    go zero (x ∷ xs) = omega arith
-    go (suc n) (x ∷ xs) = let e = go n xs in let a = word_cons x (take n xs) in let b = word_cons x xs in omega (arith, e, a, b)
+take_count n xs =
+    let whole = ap word_count (sym (take-append-drop n xs)) ∙ ap length (keys_append (take n xs) (drop n xs)) ∙ length-append (positional_keys (take n xs)) (positional_keys (drop n xs)) in
+    omega (arith, whole)
 
 taken_more : {F V P M S : Type 0} (xs : List (Parsed F V P M S)) (index : ℕ) (x : Parsed F V P M S) → index < length xs → x ≡ get_or xs index x → word_count (take (index + 1) xs) ≡ word_count (x ∷ []) + word_count (take index xs)
 taken_more xs index x within is =
@@ -198,8 +149,7 @@ taken_more xs index x within is =
 pub done_none : {F V P M S : Type 0} (positionals : List (Positional P)) (count : ℕ) (xs : List (Parsed F V P M S)) → AreDone positionals count xs xs 0 0
 done_none positionals count xs = record {
   counted = refl;
-  same = λ i below. absurd (omega (arith, below));
-  given = λ places are i below. absurd (omega (arith, below));
+  gives = λ i below. absurd (omega (arith, below));
   later = λ i past d. refl;
 }
 
@@ -212,7 +162,7 @@ pub word_below : {F V P M S : Type 0} (positionals : List (Positional P)) (count
     → old ≡ get_or ys index old → is_positional old ≡ true → word < word_count xs
 word_below positionals count xs ys index word old done within old_is is =
     let more = taken_more xs index old within (old_at positionals count xs ys index word old done old_is) in
-    let one = one_word old is in
+    let one = one_counted old true is in
     let less = take_count (index + 1) xs in
     omega (arith, more, one, less, done.counted)
 
@@ -222,13 +172,10 @@ pub done_more : {F V P M S : Type 0} (positionals : List (Positional P)) (count 
     → word_now ≡ after b word → AreDone positionals count xs (set ys index new) (index + 1) word_now
 done_more {F} {V} {P} {M} {S} positionals count xs ys index word word_now old new b done within same_length old_is counted b_is same given now_is = record {
   counted = now;
-  same = below_more _ _ (λ i below d. subst (IsSame (get_or xs i d)) (sym (get_or-set_other ys index i new d (omega (arith, below)))) (done.same i below d))
-      (λ d. subst (λ x. IsSame x (get_or (set ys index new) index d)) (sym (at d)) (subst (IsSame old) (sym (set_is d)) same));
-  given = λ places are. below_more _ _
-      (λ i below d. subst (IsGiven positionals places (word_count (take i xs) + 0) (get_or xs i d)) (sym (get_or-set_other ys index i new d (omega (arith, below)))) (done.given places are i below d))
-      (λ d. subst (λ x. IsGiven positionals places (word_count (take index xs) + 0) x (get_or (set ys index new) index d)) (sym (at d))
-      (subst (IsGiven positionals places (word_count (take index xs) + 0) old) (sym (set_is d))
-      (subst (λ n. IsGiven positionals places n old new) (omega (arith, done.counted)) (given places are (λ is. subst (λ n. word < n) (sym counted) (word_below positionals count xs ys index word old done within old_is is))))));
+  gives = below_more _ _
+      (λ i below d. subst (Gives positionals count (word_count (take i xs) + 0) (get_or xs i d)) (sym (get_or-set_other ys index i new d (omega (arith, below)))) (done.gives i below d))
+      (λ d. subst (λ x. Gives positionals count (word_count (take index xs) + 0) x (get_or (set ys index new) index d)) (sym (at d))
+      (subst (Gives positionals count (word_count (take index xs) + 0) old) (sym (set_is d)) (subst (λ n. Gives positionals count n old new) (omega (arith, done.counted)) (same, own))));
   later = λ i past d. get_or-set_other ys index i new d (omega (arith, past)) ∙ done.later i (omega (arith, past)) d;
 }
   where
@@ -244,31 +191,23 @@ done_more {F} {V} {P} {M} {S} positionals count xs ys index word word_now old ne
     more : word_count (take (index + 1) xs) ≡ word_count (old ∷ []) + word_count (take index xs)
     more = taken_more xs index old within at_old
 
+    own : (places : List ℕ) → ArePlaces (map positional_view positionals) count places → IsGiven positionals places word old new
+    own places are = given places are (λ is. subst (λ n. word < n) (sym counted) (word_below positionals count xs ys index word old done within old_is is))
+
     now : word_now ≡ word_count (take (index + 1) xs)
     now = now_is ∙ one_after old b word (sym b_is) ∙ ap (λ n. word_count (old ∷ []) + n) done.counted ∙ sym more
 
--- the same for the element that is found there
-pub done_item : {F V P M S : Type 0} (positionals : List (Positional P)) (count : ℕ) (xs ys : List (Parsed F V P M S)) (index word word_now : ℕ) (old new : Parsed F V P M S) (b : Bool)
-    → AreDone positionals count xs ys index word → index < length xs → length ys ≡ length xs → old ≡ get_or ys index old → count ≡ word_count xs → b ≡ is_positional (get_or ys index old) → IsSame (get_or ys index old) new
-    → ((places : List ℕ) → ArePlaces (map positional_view positionals) count places → (is_positional (get_or ys index old) ≡ true → word < count) → IsGiven positionals places word (get_or ys index old) new)
-    → word_now ≡ after b word → AreDone positionals count xs (set ys index new) (index + 1) word_now
-done_item positionals count xs ys index word word_now old new b done within same_length is counted b_is same given now_is =
-    done_more positionals count xs ys index word word_now old new b done within same_length is counted (b_is ∙ ap is_positional (sym is)) (subst (λ x. IsSame x new) (sym is) same)
-    (λ places are below. subst (λ x. IsGiven positionals places word x new) (sym is) (given places are (λ so. below (ap is_positional is ∙ so)))) now_is
-
-pub item_below : {F V P M S : Type 0} (positionals : List (Positional P)) (count : ℕ) (xs ys : List (Parsed F V P M S)) (index word : ℕ) (old : Parsed F V P M S) → AreDone positionals count xs ys index word → index < length xs
-    → old ≡ get_or ys index old → is_positional (get_or ys index old) ≡ true → word < word_count xs
-item_below positionals count xs ys index word old done within is so = word_below positionals count xs ys index word old done within is (ap is_positional is ∙ so)
-
 -- at the end each positional has its key
-pub all_same : {F V P M S : Type 0} (positionals : List (Positional P)) (count : ℕ) (xs ys : List (Parsed F V P M S)) (index word : ℕ) → AreDone positionals count xs ys index word → length ys ≡ length xs → length xs ≤ index
-    → EachSame xs ys
-all_same positionals count xs ys index word done same_length all = each_same xs ys same_length (λ i d below. done.same i (omega (arith, below, all)) d)
-
 pub all_given : {F V P M S : Type 0} (positionals : List (Positional P)) (count : ℕ) (xs ys : List (Parsed F V P M S)) (index word : ℕ) → AreDone positionals count xs ys index word → length ys ≡ length xs → length xs ≤ index
-    → count ≡ word_count xs → IsWithin (word_count xs) (most (map positional_view positionals)) → HaveKeys positionals ys
-all_given positionals count xs ys index word done same_length all counted within =
+    → EachGives positionals count 0 xs ys
+all_given positionals count xs ys index word done same_length all = each_gives positionals count 0 xs ys same_length (λ i d below. done.gives i (omega (arith, below, all)) d)
+
+pub have_keys : {F V P M S : Type 0} (positionals : List (Positional P)) (xs ys : List (Parsed F V P M S)) → EachGives positionals (word_count xs) 0 xs ys → IsWithin (word_count xs) (most (map positional_view positionals))
+    → HaveKeys positionals ys
+have_keys positionals xs ys given within =
     let some = some_places (map positional_view positionals) (word_count xs) within in
-    have_keys positionals xs ys some.0 some.1 (all_same positionals count xs ys index word done same_length all)
-    (each_given positionals some.0 0 xs ys same_length
-    (λ i d below. done.given some.0 (subst (λ n. ArePlaces (map positional_view positionals) n some.0) (sym counted) some.1) i (omega (arith, below, all)) d))
+    record {
+      places = some.0;
+      are_places = subst (λ n. ArePlaces (map positional_view positionals) n some.0) (sym (same_count positionals (word_count xs) 0 xs ys given)) some.1;
+      have = given_keys positionals (word_count xs) some.0 0 xs ys some.1 given (let e = places_length (map positional_view positionals) (word_count xs) some.0 some.1 in omega (arith, e));
+    }

@@ -1,25 +1,17 @@
 -- Which positional each word of a line belongs to, word by word.
-use Rattle.std.proofs.Common.{◌≡◌, ◌≤◌, ◌<◌, ◌+◌, ◌-◌, ℕ, zero, suc, List, [], ◌∷◌, ◌++◌, length, take, drop, map, get_or, replicate, Some, None, slice_get, refl, sym, ap, subst, ◌∙◌, arith}
-use Rattle.std.specs.List.{AllZip, sum_by}
+use Rattle.std.proofs.Common.{◌≡◌, ◌≤◌, ◌<◌, ◌+◌, ◌-◌, ℕ, zero, suc, List, [], ◌∷◌, ◌++◌, length, drop, map, get_or, replicate, Some, None, slice_get, refl, sym, ap, subst, ◌∙◌, arith}
+use Rattle.std.specs.List.{AllZip}
 use Rattle.std.specs.Option.{option_map}
-use Rattle.std.proofs.lemmas.List.{drop_more}
-use Rattle.std.proofs.lemmas.List.Sums.{sum_by-cons}
-use Rattle.std.proofs.lemmas.Option.{slice_get-get_or, slice_get_within}
+use Rattle.std.proofs.lemmas.List.{drop_all, drop_more, get_or-map, length-map, length-take-le}
+use Rattle.std.proofs.lemmas.Option.{get_or_from_slice_get, slice_get-get_or, slice_get_within}
 use Rattle.lexopt_options_spec.specs.Declaration as spec
 use Rattle.lexopt_options_spec.specs.Legal.{IsWithin, most}
-use Rattle.lexopt_options_spec.specs.Places.{least}
-use Rattle.lexopt_options_spec.specs.Places.{ArePlaces, AreShares, CanTake, needs, owners}
-use Rattle.lexopt_options_spec.proofs.Shares.{shares_are_greedy, some_places}
-use Rattle.lexopt_options_spec.specs.Places.{extra, greedy}
+use Rattle.lexopt_options_spec.specs.Places.{ArePlaces, extra, greedy, least, needs, owners}
+use Rattle.lexopt_options_spec.proofs.Shares.{places_are, some_places}
+use Rattle.lexopt_options_spec.proofs.Taken.{owners_length, slice_get_take}
 use Rattle.lexopt_declaration.specs.Models.{positional_view}
 use Rattle.lexopt_declaration.specs.declared.declaration.Positional.{Positional}
 use Rattle.lexopt_options.specs.Keys.{AllFirst, HasKey}
-
-abbrev pub total : List ℕ → ℕ
-total shares = sum_by (λ n. n) shares
-
-total_cons : (n : ℕ) (ns : List ℕ) → total (n ∷ ns) ≡ n + total ns
-total_cons n ns = sum_by-cons (λ m. m) n ns
 
 -- ---- the word at an index
 
@@ -35,12 +27,8 @@ past_first k (suc m) (suc left) rest past = past_first k m left rest (omega (ari
 
 -- the word at this index has the positional of the word at index `left`, counted among the words of
 -- the positionals from index k on
-pub record IsLeft (ps : List spec.Positional) (spare word k left spare_now : ℕ) : Type 0 where
-  pub same : slice_get (owners 0 (greedy ps spare)) word ≡ slice_get (owners k (greedy (drop k ps) spare_now)) left
-  pub inside : word < total (greedy ps spare) → left < total (greedy (drop k ps) spare_now)
-
-pub at_start : (ps : List spec.Positional) (spare word : ℕ) → IsLeft ps spare word 0 word spare
-at_start ps spare word = record { same = refl; inside = λ inside. inside }
+abbrev pub IsLeft : List spec.Positional → ℕ → ℕ → ℕ → ℕ → ℕ → Type 0
+IsLeft ps spare word k left spare_now = slice_get (owners 0 (greedy ps spare)) word ≡ slice_get (owners k (greedy (drop k ps) spare_now)) left
 
 next : (ps : List spec.Positional) (spare_now k : ℕ) (p : spec.Positional) → k < length ps → p ≡ get_or ps k p
     → greedy (drop k ps) spare_now ≡ (needs p.count + extra p.count spare_now) ∷ greedy (drop (k + 1) ps) (spare_now - extra p.count spare_now)
@@ -50,7 +38,7 @@ next ps spare_now k p within is = ap (λ l. greedy l spare_now) (drop_more ps k 
 pub found_here : (ps : List spec.Positional) (spare word k left spare_now : ℕ) (p : spec.Positional) → IsLeft ps spare word k left spare_now → k < length ps → p ≡ get_or ps k p
     → left < needs p.count + extra p.count spare_now → slice_get (owners 0 (greedy ps spare)) word ≡ Some k
 found_here ps spare word k left spare_now p before within is inside =
-    before.same ∙ ap (λ l. slice_get (owners k l) left) (next ps spare_now k p within is)
+    before ∙ ap (λ l. slice_get (owners k l) left) (next ps spare_now k p within is)
     ∙ in_first k (needs p.count + extra p.count spare_now) left (owners (suc k) (greedy (drop (k + 1) ps) (spare_now - extra p.count spare_now))) inside
 
 -- it belongs to a later positional
@@ -62,91 +50,39 @@ found_later ps spare word k left spare_now left_next spare_next p before within 
     let rest = greedy (drop (k + 1) ps) (spare_now - extra p.count spare_now) in
     let step = next ps spare_now k p within is in
     let rest_is : rest ≡ greedy (drop (k + 1) ps) spare_next = ap (greedy (drop (k + 1) ps)) (sym spare_is) in
-    record {
-      same = before.same ∙ ap (λ l. slice_get (owners k l) left) step ∙ past_first k m left (owners (suc k) rest) past
-          ∙ ap (λ n. slice_get (owners (suc k) rest) n) (sym left_is) ∙ ap (λ l. slice_get (owners (suc k) l) left_next) rest_is
-          ∙ ap (λ n. slice_get (owners n (greedy (drop (k + 1) ps) spare_next)) left_next) (omega arith);
-      inside = λ inside.
-          let h : left < total (m ∷ rest) = subst (λ l. left < total l) step (before.inside inside) in
-          subst (λ l. left_next < total l) rest_is (omega (arith, h, total_cons m rest, left_is, past));
-    }
+    before ∙ ap (λ l. slice_get (owners k l) left) step ∙ past_first k m left (owners (suc k) rest) past
+    ∙ ap (λ n. slice_get (owners (suc k) rest) n) (sym left_is) ∙ ap (λ l. slice_get (owners (suc k) l) left_next) rest_is
+    ∙ ap (λ n. slice_get (owners n (greedy (drop (k + 1) ps) spare_next)) left_next) (omega arith)
 
 -- there is no such word
 pub nothing_left : (ps : List spec.Positional) (spare word left spare_now k : ℕ) → length ps ≤ k → IsLeft ps spare word k left spare_now → slice_get (owners 0 (greedy ps spare)) word ≡ None
-nothing_left ps spare word left spare_now k past before = before.same ∙ ap (λ l. slice_get (owners k (greedy l spare_now)) left) (drop_all ps k past)
-  where
-    drop_all : (ps : List spec.Positional) (k : ℕ) → length ps ≤ k → drop k ps ≡ []
-    drop_all [] zero past = refl
-    drop_all [] (suc k) past = refl
-    drop_all (p ∷ ps) zero past = absurd (omega (arith, past))
-    drop_all (p ∷ ps) (suc k) past = drop_all ps k (omega (arith, past))
-
--- there is no other positional
-pub none_left : (ps : List spec.Positional) (spare word left spare_now k : ℕ) → length ps ≤ k → IsLeft ps spare word k left spare_now → word < total (greedy ps spare) → ⊥
-none_left ps spare word left spare_now k past before inside =
-    let h = subst (λ l. left < total (greedy l spare_now)) (drop_all ps k past) (before.inside inside) in omega (arith, h)
-  where
-    drop_all : (ps : List spec.Positional) (k : ℕ) → length ps ≤ k → drop k ps ≡ []
-    drop_all [] zero past = refl
-    drop_all [] (suc k) past = refl
-    drop_all (p ∷ ps) zero past = absurd (omega (arith, past))
-    drop_all (p ∷ ps) (suc k) past = drop_all ps k (omega (arith, past))
+nothing_left ps spare word left spare_now k past before = before ∙ ap (λ l. slice_get (owners k (greedy l spare_now)) left) (drop_all k ps past)
 
 -- ---- places
 
-owners_length : (k : ℕ) (shares : List ℕ) → length (owners k shares) ≡ total shares
-owners_length k [] = refl
-owners_length k (n ∷ ns) = replicated n k (owners (suc k) ns) ∙ ap (λ m. n + m) (owners_length (suc k) ns) ∙ sym (total_cons n ns)
-  where
-    replicated : (n k : ℕ) (rest : List ℕ) → length (replicate n k ++ rest) ≡ n + length rest
-    replicated zero k rest = omega arith
-    replicated (suc n) k rest = ap suc (replicated n k rest) ∙ omega arith
-
-pub take_get : (n : ℕ) (l : List ℕ) (i : ℕ) → i < n → slice_get (take n l) i ≡ slice_get l i
-take_get zero l i below = absurd (omega (arith, below))
-take_get (suc n) [] i below = refl
-take_get (suc n) (x ∷ l) zero below = refl
-take_get (suc n) (x ∷ l) (suc i) below = take_get n l i (omega (arith, below))
-
-take_length : (n : ℕ) (l : List ℕ) → n ≤ length l → length (take n l) ≡ n
-take_length zero l enough = refl
-take_length (suc n) [] enough = absurd (omega (arith, enough))
-take_length (suc n) (x ∷ l) enough = ap suc (take_length n l (omega (arith, enough)))
-
 pub places_length : (ps : List spec.Positional) (count : ℕ) (places : List ℕ) → ArePlaces ps count places → length places ≡ count
 places_length ps count places are =
-    ap length are.placed ∙ take_length count (owners 0 are.shares) (omega (arith, owners_length 0 are.shares, are.are_shares.all))
+    ap length are.placed ∙ length-take-le count (owners 0 are.shares) (omega (arith, owners_length 0 are.shares, are.are_shares.all))
 
-shares_so : (ps : List spec.Positional) (count : ℕ) (places : List ℕ) (are : ArePlaces ps count places) → are.shares ≡ greedy ps (count - least ps)
-shares_so ps count places are =
-    shares_are_greedy ps (count - least ps) are.shares (subst (λ n. AreShares ps n are.shares) (omega arith) are.are_shares)
+pub places_some : (places : List ℕ) (n i : ℕ) → slice_get places n ≡ Some i → drop n places ≡ i ∷ drop (n + 1) places
+places_some places n i is =
+    let within = slice_get_within places n i is in
+    drop_more places n 0 within ∙ ap (λ x. x ∷ drop (n + 1) places) (get_or_from_slice_get places n i 0 is)
 
 -- the positional of each word is the one that is found
-pub place_is : (ps : List spec.Positional) (count : ℕ) (places : List ℕ) (word i : ℕ) → ArePlaces ps count places → word < count
-    → slice_get (owners 0 (greedy ps (count - least ps))) word ≡ Some i → slice_get places word ≡ Some i
-place_is ps count places word i are below is =
-    ap (λ l. slice_get l word) are.placed ∙ take_get count (owners 0 are.shares) word below ∙ ap (λ l. slice_get (owners 0 l) word) (shares_so ps count places are) ∙ is
+place_is : (ps : List spec.Positional) (count : ℕ) (places : List ℕ) (spare word : ℕ) → ArePlaces ps count places → spare ≡ count - least ps → word < count
+    → slice_get places word ≡ slice_get (owners 0 (greedy ps spare)) word
+place_is ps count places spare word are is below =
+    ap (λ l. slice_get l word) (places_are ps count places are) ∙ slice_get_take count (owners 0 (greedy ps (count - least ps))) word below ∙ ap (λ s. slice_get (owners 0 (greedy ps s)) word) (sym is)
 
-pub word_inside : (ps : List spec.Positional) (count : ℕ) (places : List ℕ) (word : ℕ) → ArePlaces ps count places → word < count → word < total (greedy ps (count - least ps))
-word_inside ps count places word are below =
-    subst (λ l. word < total l) (shares_so ps count places are) (omega (arith, below, are.are_shares.all))
-
--- the same, by the number of words that are not required
 pub place_there : (ps : List spec.Positional) (count : ℕ) (places : List ℕ) (spare word i : ℕ) → ArePlaces ps count places → spare ≡ count - least ps → word < count → slice_get (owners 0 (greedy ps spare)) word ≡ Some i
     → slice_get places word ≡ Some i
-place_there ps count places spare word i are is below here = place_is ps count places word i are below (ap (λ s. slice_get (owners 0 (greedy ps s)) word) (sym is) ∙ here)
+place_there ps count places spare word i are is below here = place_is ps count places spare word are is below ∙ here
 
 pub no_place : (ps : List spec.Positional) (count : ℕ) (places : List ℕ) (spare word : ℕ) → ArePlaces ps count places → spare ≡ count - least ps → word < count → slice_get (owners 0 (greedy ps spare)) word ≡ None → ⊥
 no_place ps count places spare word are is below none =
-    let inside = word_inside ps count places word are below in
-    let within : word < length (owners 0 (greedy ps spare)) =
-    subst (λ n. word < n) (sym (owners_length 0 (greedy ps (count - least ps))) ∙ ap (λ s. length (owners 0 (greedy ps s))) (sym is)) inside in
-    let some = slice_get-get_or (owners 0 (greedy ps spare)) word 0 within in
-    let e : Some (get_or (owners 0 (greedy ps spare)) word 0) ≡ None = sym some ∙ none in cc
-
-pub viewed_length : {P : Type 0} (ps : List (Positional P)) → length (map positional_view ps) ≡ length ps
-viewed_length [] = refl
-viewed_length (p ∷ ps) = ap suc (viewed_length ps)
+    let some = slice_get-get_or places word 0 (omega (arith, below, places_length ps count places are)) in
+    let e : Some (get_or places word 0) ≡ None = sym some ∙ place_is ps count places spare word are is below ∙ none in cc
 
 -- the positional that a word belongs to is declared
 pub owner_within : (ps : List spec.Positional) (k spare word i : ℕ) → slice_get (owners k (greedy ps spare)) word ≡ Some i → i < k + length ps
@@ -163,37 +99,23 @@ owner_within (p ∷ ps) k spare word i is = go (λ n. owner_within ps (suc k) (s
 
 pub place_past : {P : Type 0} (positionals : List (Positional P)) (spare word i : ℕ) → length positionals ≤ i → slice_get (owners 0 (greedy (map positional_view positionals) spare)) word ≡ Some i → ⊥
 place_past positionals spare word i past is =
-    let within = owner_within (map positional_view positionals) 0 spare word i is in omega (arith, within, past, viewed_length positionals)
+    let within = owner_within (map positional_view positionals) 0 spare word i is in omega (arith, within, past, length-map positionals positional_view)
 
 -- ---- the positionals of a declaration
 
 pub viewed : {P : Type 0} (ps : List (Positional P)) (k : ℕ) (x : Positional P) → k < length ps → x ≡ get_or ps k x → positional_view x ≡ get_or (map positional_view ps) k (positional_view x)
-viewed [] k x within is = absurd (omega (arith, within))
-viewed (p ∷ ps) zero x within is = ap positional_view is
-viewed (p ∷ ps) (suc k) x within is = viewed ps k x (omega (arith, within)) is
+viewed ps k x within is = ap positional_view is ∙ sym (get_or-map positional_view ps k x (positional_view x) within)
 
 pub has_its_key : {P : Type 0} (ps : List (Positional P)) (k : ℕ) (x : Positional P) → k < length ps → x ≡ get_or ps k x → HasKey ps k x.key
 has_its_key ps k x within is = ap (option_map (λ p. p.key)) (slice_get-get_or ps k x within) ∙ ap (λ p. Some p.key) (sym is)
 
 -- ---- one positional, or none
 
-all_first : (ps : List spec.Positional) (shares : List ℕ) → length ps < 2 → AllZip (λ p n. CanTake p.count n) ps shares → (i x : ℕ) → slice_get (owners 0 shares) i ≡ Some x → x ≡ 0
-all_first [] [] few each i x is = absurd (let e : None ≡ Some x = is in cc)
-all_first [] (n ∷ shares) few each i x is = absurd each
-all_first (p ∷ []) [] few each i x is = absurd each
-all_first (p ∷ []) (n ∷ []) few each i x is = zeros n i is
-  where
-    zeros : (n i : ℕ) → slice_get (replicate n 0 ++ []) i ≡ Some x → x ≡ 0
-    zeros zero i is = absurd (let e : None ≡ Some x = is in cc)
-    zeros (suc n) zero is = let e : Some 0 ≡ Some x = is in cc
-    zeros (suc n) (suc i) is = zeros n i is
-all_first (p ∷ []) (n ∷ m ∷ shares) few each i x is = absurd each.1
-all_first (p ∷ q ∷ ps) shares few each i x is = absurd (omega (arith, few))
-
 places_zero : (ps : List spec.Positional) (count : ℕ) (places : List ℕ) → length ps < 2 → ArePlaces ps count places → (i x : ℕ) → slice_get places i ≡ Some x → x ≡ 0
 places_zero ps count places few are i x is =
     let below : i < count = subst (λ n. i < n) (places_length ps count places are) (slice_get_within places i x is) in
-    all_first ps are.shares few are.are_shares.each i x (sym (take_get count (owners 0 are.shares) i below) ∙ ap (λ l. slice_get l i) (sym are.placed) ∙ is)
+    let within = owner_within ps 0 (count - least ps) i x (sym (place_is ps count places (count - least ps) i are refl below) ∙ is) in
+    omega (arith, few, within)
 
 zip_first : {P : Type 0} (positionals : List (Positional P)) (places : List ℕ) (keys : List P) → ((i x : ℕ) → slice_get places i ≡ Some x → x ≡ 0) → AllFirst positionals keys → length places ≡ length keys
     → AllZip (HasKey positionals) places keys
@@ -209,4 +131,4 @@ pub first_keys : {P : Type 0} (positionals : List (Positional P)) (keys : List P
 first_keys positionals keys few within first =
     let ps = map positional_view positionals in
     let some = some_places ps (length keys) within in
-    (some.0, some.1, zip_first positionals some.0 keys (places_zero ps (length keys) some.0 (subst (λ n. n < 2) (sym (viewed_length positionals)) few) some.1) first (places_length ps (length keys) some.0 some.1))
+    (some.0, some.1, zip_first positionals some.0 keys (places_zero ps (length keys) some.0 (subst (λ n. n < 2) (sym (length-map positionals positional_view)) few) some.1) first (places_length ps (length keys) some.0 some.1))

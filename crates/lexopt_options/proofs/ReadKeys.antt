@@ -1,5 +1,5 @@
 -- One step of reading a line by keys.
-use Rattle.std.proofs.Common.{◌≡◌, ◌≤◌, ◌+◌, ◌==◌, ◌||◌, ◌&&◌, ℕ, suc, Bool, Ok, Option, is_none, true, false, add-zero, List, [], ◌∷◌, ◌++◌, None, Some, length, refl, sym, ap, subst, ◌∙◌, inl, inr, arith}
+use Rattle.std.proofs.Common.{◌≡◌, ◌↔◌, IsTrue, ◌≤◌, ◌+◌, ◌==◌, ◌||◌, ◌&&◌, ℕ, suc, Bool, Ok, Option, is_none, true, false, add-zero, List, [], ◌∷◌, ◌++◌, None, Some, length, refl, sym, ap, subst, ◌∙◌, inl, inr, arith}
 use Rattle.lexopt_spec.specs.UnreadLine.{UnreadLine, IsLine, LastOption, no_option, short_option, long_option, no_tail, joined, rest, equals, BeginsWith}
 use Rattle.lexopt_spec.specs.Steps as steps
 use Rattle.lexopt_spec.specs.Steps.{Reply, Next, NextStep, ReadsPositional, no_word_left, word_left, ReadsWord, no_word, reads_separator, reads_long, reads_cluster, reads_positional, unexpected, joined_value, equals_value, next_in_cluster, after_separator, next_word}
@@ -11,14 +11,18 @@ use Rattle.lexopt_options_spec.specs.Asking.{asked_by, first_asked, parsed_befor
 use Rattle.lexopt_options_spec.specs.Legal as legal
 use Rattle.lexopt_options_spec.proofs.Listed.{accepted_append}
 use Rattle.lexopt_options_spec.proofs.Fronts.{nothing_read}
-use Rattle.lexopt_options_spec.specs.Legal.{IsWithin, are_accepted, counts, is_required, occurs, positional_count, refused_value}
+use Rattle.lexopt_options_spec.proofs.PastSeparator.{option_open}
+use Rattle.lexopt_options_spec.specs.Legal.{IsWithin, are_accepted, counts, is_required, most, occurs, parsed_item, positional_count, refused_value}
 use Rattle.lexopt_options_spec.specs.Stops.{IsOfOption, Stops}
 use Rattle.lexopt_declaration.specs.declared.declaration.Declared.{Declared}
 use Rattle.lexopt_line_spec.specs.Readings.{option_reply, start}
 use Rattle.lexopt_line_spec.specs.Table.{Kind, Name}
 use Rattle.lexopt_line_spec.specs.Values.{Values, at_most_one, all, ReadsValues}
-use Rattle.lexopt_options_spec.specs.Declaration.{has, index_of}
+use Rattle.lexopt_options_spec.specs.Declaration.{Declaration, has, index_of, table}
 use Rattle.lexopt_options.specs.declared.options.Options.{Options}
+use Rattle.lexopt_options.specs.declared.rest.RestStart.{RestStart}
+use Rattle.lexopt_options.specs.declared.rest.RestStart.TheVariants.{Separated, Surplus}
+use Rattle.lexopt_options.specs.RestStarts.{is_separated}
 use Rattle.lexopt_options.specs.declared.parsed.Parsed.{Parsed}
 use Rattle.lexopt_options.specs.declared.parsed.ByKey.{ByKey}
 use Rattle.lexopt_options.specs.Declarations.{declaration_of, options_of, positionals_of}
@@ -35,16 +39,16 @@ use Rattle.lexopt_options_spec.specs.Declaration as spec
 use Rattle.std.proofs.lemmas.Bool.{eq-eqb, eqb-true, false≢true}
 use Rattle.std.proofs.Math.Bool.{or-false}
 use Rattle.lexopt_options.proofs.Keys.{asked_more, parsed_length, parsed_more}
-use Rattle.lexopt_options.proofs.ReadNext.{count_more, count_small, no_count, none_within, one_more, option_parsed}
+use Rattle.lexopt_options.proofs.ReadNext.{count_more, count_small, more_within, no_count, one_more, option_parsed}
 
-pub at_start : {F V P M S : Type 0} (o : Options F V P M S) (limit : Option ℕ) (u : UnreadLine) {parsed : List (Parsed F V P M S)} {seen : List ℕ} → IsLine u → parsed ≡ [] → seen ≡ [] → HasRead o limit u u 0 seen parsed
-at_start {F} {V} {P} {M} {S} o limit u {parsed} {seen} line none_parsed none_seen = subst (λ (xs : List (Parsed F V P M S)). HasRead o limit u u 0 seen xs) (sym none_parsed) (subst (λ (l : List ℕ). HasRead o limit u u 0 l []) (sym none_seen) (record {
+pub at_start : {F V P M S : Type 0} (o : Options F V P M S) (begins : RestStart) (u : UnreadLine) {parsed : List (Parsed F V P M S)} {seen : List ℕ} → IsLine u → u.ended ≡ false → parsed ≡ [] → seen ≡ [] → HasRead o begins u u 0 seen parsed
+at_start {F} {V} {P} {M} {S} o begins u {parsed} {seen} line not none_parsed none_seen = subst (λ (xs : List (Parsed F V P M S)). HasRead o begins u u 0 seen xs) (sym none_parsed) (subst (λ (l : List ℕ). HasRead o begins u u 0 l []) (sym none_seen) (record {
   l = [];
   read = nothing_read (declaration_of o) u line;
+  before = λ is. not;
   none = refl;
   are = tt;
   counted = refl;
-  limited = none_within limit 0 (omega arith);
   are_seen = λ i needed. refl;
   firsts = tt;
   accepted = refl;
@@ -122,32 +126,49 @@ keys_count options (s ∷ l) (x ∷ xs) are = one x are.0 (keys_count options l 
 pub one_unrefused : (options : List spec.Declared) (s : legal.Parsed) → refused_value options s ≡ None → are_accepted options (s ∷ []) ≡ true
 one_unrefused options s none = ap (λ (x : Option (List ℕ)). is_none x && true) none
 
-pub has_option : {F V P M S : Type 0} (o : Options F V P M S) (limit : Option ℕ) (u v w : UnreadLine) (count index : ℕ) (seen seen_now : List ℕ) (parsed more : List (Parsed F V P M S)) (s : legal.Parsed) (own : Parsed F V P M S)
-    → HasRead o limit u v count seen parsed → ReadsParsed (declaration_of o) count v s w → asked_by (declaration_of o).options s ≡ None → IsParsedAs (options_of o) s own → counts s ≡ 0 → IsOption index s → refused_value (declaration_of o).options s ≡ None
-    → seen_now ≡ noted (is_required (declaration_of o).options index) index seen → more ≡ parsed ++ own ∷ [] → HasRead o limit u w count seen_now more
-has_option o limit u v w count index seen seen_now parsed more s own had reads none is counts_is option unrefused seen_is more_is = record {
+-- an option is read before the separator
+pub before_separator : (d : Declaration) (count : ℕ) (v w : UnreadLine) (s : legal.Parsed) → IsLine v → ReadsParsed d count v s w → counts s ≡ 0 → w.ended ≡ false
+before_separator d count v w s line reads none = option_open (table d.options) v w reads.item line reads.reads (λ word is. never word (sym (ap (parsed_item d.options) is) ∙ reads.parsed))
+  where
+    never : (word : List ℕ) → Some (legal.positional word) ≡ Some s → ⊥
+    never word is = let e : legal.positional word ≡ s = cc in let f = ap counts e in omega (arith, f, none)
+
+pub has_option : {F V P M S : Type 0} (o : Options F V P M S) (begins : RestStart) (u v w : UnreadLine) (count index : ℕ) (seen seen_now : List ℕ) (parsed more : List (Parsed F V P M S)) (s : legal.Parsed) (own : Parsed F V P M S)
+    → HasRead o begins u v count seen parsed → ReadsParsed (declaration_of o) count v s w → asked_by (declaration_of o).options s ≡ None → IsParsedAs (options_of o) s own → counts s ≡ 0 → IsOption index s → refused_value (declaration_of o).options s ≡ None
+    → seen_now ≡ noted (is_required (declaration_of o).options index) index seen → more ≡ parsed ++ own ∷ [] → HasRead o begins u w count seen_now more
+has_option o begins u v w count index seen seen_now parsed more s own had reads none is counts_is option unrefused seen_is more_is = record {
   l = had.l ++ s ∷ [];
   read = one_more (declaration_of o) u v w had.l count s had.read had.counted reads;
+  before = λ is. before_separator (declaration_of o) count v w s had.read.line reads counts_is;
   none = asked_more (declaration_of o).options had.l s had.none none;
   are = subst (AreParsedAs (options_of o) (had.l ++ s ∷ [])) (sym more_is) (parsed_more (options_of o) had.l parsed s own had.are is);
   counted = sym (add-zero count) ∙ count_more had.l count 0 s had.counted counts_is;
-  limited = had.limited;
   are_seen = subst (AreSeen (declaration_of o).options (had.l ++ s ∷ [])) (sym seen_is) (seen_more (declaration_of o).options had.l seen index s option had.are_seen);
   firsts = subst (AllFirst (positionals_of o)) (sym (ap positional_keys more_is ∙ keys_append parsed (own ∷ [])))
       (firsts_append (positionals_of o) (positional_keys parsed) (positional_keys (own ∷ [])) had.firsts (subst (AllFirst (positionals_of o)) (sym (no_key (options_of o) index s own is option)) tt));
   accepted = accepted_append (declaration_of o).options had.l (s ∷ []) had.accepted (one_unrefused (declaration_of o).options s unrefused);
 }
 
-pub has_positional : {F V P M S : Type 0} (o : Options F V P M S) (limit : Option ℕ) (u v w : UnreadLine) (count : ℕ) (seen : List ℕ) (parsed more : List (Parsed F V P M S)) (word : List ℕ) (key : P)
-    → HasRead o limit u v count seen parsed → IsWithin (count + 1) limit → ReadsParsed (declaration_of o) count v (legal.positional word) w → HasKey (positionals_of o) 0 key → more ≡ parsed ++ variant.Positional key word ∷ []
-    → HasRead o limit u w (count + 1) seen more
-has_positional o limit u v w count seen parsed more word key had room reads first more_is = record {
+-- there may be one more positional
+pub room_for_one : (d : Declaration) (l : List legal.Parsed) (count : ℕ) (limit : Option ℕ) (full : Bool) → count ≡ positional_count l → limit ≡ most d.positionals → (IsTrue full ↔ (limit ≡ Some count)) → full ≡ false → IsWithin (positional_count l) (most d.positionals)
+    → IsWithin (count + 1) (most d.positionals)
+room_for_one d l count limit full counted limit_is tells is within =
+    more_within count (most d.positionals) (λ same. false≢true (sym is ∙ tells.1 (limit_is ∙ same))) (subst (λ n. IsWithin n (most d.positionals)) (sym counted) within)
+
+pub not_separated : (begins : RestStart) (ended : Bool) → is_separated begins ended ≡ false → begins ≡ Separated → ended ≡ false
+not_separated Surplus ended none is = cc
+not_separated Separated ended none is = none
+
+pub has_positional : {F V P M S : Type 0} (o : Options F V P M S) (begins : RestStart) (u v w : UnreadLine) (count : ℕ) (seen : List ℕ) (parsed more : List (Parsed F V P M S)) (word : List ℕ) (key : P)
+    → HasRead o begins u v count seen parsed → (begins ≡ Separated → w.ended ≡ false) → ReadsParsed (declaration_of o) count v (legal.positional word) w → HasKey (positionals_of o) 0 key → more ≡ parsed ++ variant.Positional key word ∷ []
+    → HasRead o begins u w (count + 1) seen more
+has_positional o begins u v w count seen parsed more word key had before reads first more_is = record {
   l = had.l ++ legal.positional word ∷ [];
   read = one_more (declaration_of o) u v w had.l count (legal.positional word) had.read had.counted reads;
+  before = before;
   none = asked_more (declaration_of o).options had.l (legal.positional word) had.none refl;
   are = subst (AreParsedAs (options_of o) (had.l ++ legal.positional word ∷ [])) (sym more_is) (parsed_more (options_of o) had.l parsed (legal.positional word) (variant.Positional key word) had.are refl);
   counted = count_more had.l count 1 (legal.positional word) had.counted refl;
-  limited = room;
   are_seen = seen_same (declaration_of o).options had.l seen word had.are_seen;
   firsts = subst (AllFirst (positionals_of o)) (sym (ap positional_keys more_is ∙ keys_append parsed (variant.Positional key word ∷ [])))
       (firsts_append (positionals_of o) (positional_keys parsed) (key ∷ []) had.firsts (first, tt));
@@ -185,17 +206,17 @@ refused_so o count u v w name k index values m value k_is step found reads refus
 }
 
 -- there are at most as many positionals as things that are read
-pub count_within : {F V P M S : Type 0} (o : Options F V P M S) (limit : Option ℕ) (u v : UnreadLine) (count : ℕ) (seen : List ℕ) (parsed : List (Parsed F V P M S)) → HasRead o limit u v count seen parsed → count ≤ length parsed
-count_within o limit u v count seen parsed had = omega (arith, had.counted, count_small had.l, parsed_length (options_of o) had.l parsed had.are)
+pub count_within : {F V P M S : Type 0} (o : Options F V P M S) (begins : RestStart) (u v : UnreadLine) (count : ℕ) (seen : List ℕ) (parsed : List (Parsed F V P M S)) → HasRead o begins u v count seen parsed → count ≤ length parsed
+count_within o begins u v count seen parsed had = omega (arith, had.counted, count_small had.l, parsed_length (options_of o) had.l parsed had.are)
 
-pub starts : {F V P M S : Type 0} {o : Options F V P M S} {limit : Option ℕ} {u v w : UnreadLine} {count : ℕ} {seen : List ℕ} {parsed : List (Parsed F V P M S)} → u ≡ w → HasRead o limit u v count seen parsed → HasRead o limit w v count seen parsed
-starts {F} {V} {P} {M} {S} {o} {limit} {u} {v} {w} {count} {seen} {parsed} is had = subst (λ (x : UnreadLine). HasRead o limit x v count seen parsed) is had
+pub starts : {F V P M S : Type 0} {o : Options F V P M S} {begins : RestStart} {u v w : UnreadLine} {count : ℕ} {seen : List ℕ} {parsed : List (Parsed F V P M S)} → u ≡ w → HasRead o begins u v count seen parsed → HasRead o begins w v count seen parsed
+starts {F} {V} {P} {M} {S} {o} {begins} {u} {v} {w} {count} {seen} {parsed} is had = subst (λ (x : UnreadLine). HasRead o begins x v count seen parsed) is had
 
 -- all of what was read is before a mistake
-pub stopped_with : {F V P M S : Type 0} (o : Options F V P M S) (limit : Option ℕ) (words : List (List ℕ)) (v : UnreadLine) (count : ℕ) (seen : List ℕ) (parsed : List (Parsed F V P M S)) (m : Mistake)
-    → (had : HasRead o limit (start (declaration_of o).short_equals words) v count seen parsed) → (why : stops.Mistake) → IsMistake (declaration_of o) m why → ((l : List legal.Parsed) → parsed_before why l ≡ l)
+pub stopped_with : {F V P M S : Type 0} (o : Options F V P M S) (begins : RestStart) (words : List (List ℕ)) (v : UnreadLine) (count : ℕ) (seen : List ℕ) (parsed : List (Parsed F V P M S)) (m : Mistake)
+    → (had : HasRead o begins (start (declaration_of o).short_equals words) v count seen parsed) → (why : stops.Mistake) → IsMistake (declaration_of o) m why → ((l : List legal.Parsed) → parsed_before why l ≡ l)
     → Stops (declaration_of o) had.l v why → HasStopped o words parsed m
-stopped_with o limit words v count seen parsed m had why told kept stops = record {
+stopped_with o begins words v count seen parsed m had why told kept stops = record {
   why = why;
   told = told;
   read = had.l;
@@ -205,12 +226,12 @@ stopped_with o limit words v count seen parsed m had why told kept stops = recor
   firsts = had.firsts;
 }
 
-pub stopped_there : {F V P M S : Type 0} (o : Options F V P M S) (limit : Option ℕ) (words : List (List ℕ)) (v : UnreadLine) (count : ℕ) (seen : List ℕ) (parsed : List (Parsed F V P M S)) (m : Mistake)
-    → HasRead o limit (start (declaration_of o).short_equals words) v count seen parsed → StopsAtOption (declaration_of o) v m
-    → (stopped : HasStopped o words parsed m) × IsOfOption stopped.why × IsWithin (positional_count stopped.read) limit
+pub stopped_there : {F V P M S : Type 0} (o : Options F V P M S) (begins : RestStart) (words : List (List ℕ)) (v : UnreadLine) (count : ℕ) (seen : List ℕ) (parsed : List (Parsed F V P M S)) (m : Mistake)
+    → HasRead o begins (start (declaration_of o).short_equals words) v count seen parsed → StopsAtOption (declaration_of o) v m
+    → (stopped : HasStopped o words parsed m) × IsOfOption stopped.why
 unfolding stopped_with
-stopped_there o limit words v count seen parsed m had by =
-    (stopped_with o limit words v count seen parsed m had by.why by.told by.kept (by.stops had.l had.read.line), by.of_option, subst (λ n. IsWithin n limit) had.counted had.limited)
+stopped_there o begins words v count seen parsed m had by =
+    (stopped_with o begins words v count seen parsed m had by.why by.told by.kept (by.stops had.l had.read.line), by.of_option)
 
 -- ---- where an option has an unexpected value, nothing else is read
 

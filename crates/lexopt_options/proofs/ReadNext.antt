@@ -199,11 +199,6 @@ pub more_within : (n : ℕ) (limit : Option ℕ) → limit ≢ Some n → IsWith
 more_within n None room within = tt
 more_within n (Some m) room within = let other : m ≢ n = λ same. room (ap (λ x. Some x) same) in omega arith
 
--- no positional is within each limit
-pub none_within : (limit : Option ℕ) (n : ℕ) → n ≤ 0 → IsWithin n limit
-none_within None n none = tt
-none_within (Some m) n none = omega (arith, none)
-
 -- a positional, if one more is allowed
 pub positional_parsed : (d : Declaration) (count : ℕ) (u v : UnreadLine) (word : List ℕ) → IsWithin (count + 1) (most d.positionals) → Next u (steps.positional word) v
     → ReadsParsed d count u (legal.positional word) v

@@ -1,8 +1,8 @@
 -- Which required options were read.
-use Rattle.std.proofs.Common.{◌≡◌, ◌<◌, ◌||◌, Bool, ℕ, zero, suc, false, true, List, [], ◌∷◌, length, map, get_or, Option, Some, None, refl, sym, subst, ap, arith}
+use Rattle.std.proofs.Common.{◌≡◌, ◌<◌, ℕ, zero, suc, false, true, List, [], ◌∷◌, length, map, get_or, Option, Some, None, refl, subst, ap, arith}
 use Rattle.std.specs.List.{list_any}
 use Rattle.std.specs.Option.{MatchOption}
-use Rattle.std.proofs.lemmas.Bool.{false≢true}
+use Rattle.std.proofs.lemmas.Bool.{false≢true, or_parts}
 use Rattle.lexopt_options_spec.specs.Legal.{is_required}
 use Rattle.lexopt_declaration.specs.Lookups.{names_at}
 use Rattle.lexopt_declaration.specs.Models.{long_name, option_view, short_name}
@@ -31,15 +31,11 @@ are_names (o ∷ os) zero names needed is =
     (option_view o, refl, ap short_name same, ap long_name same)
 are_names (o ∷ os) (suc i) names needed is = are_names os i names needed is
 
-neither : (a b : Bool) → a || b ≡ false → (a ≡ false) × (b ≡ false)
-neither true b is = absurd (false≢true (sym is))
-neither false b is = (refl, is)
-
 -- if no option is required, none is missing
 pub none_required : {F V M S : Type 0} (options : List (Declared F V M S)) (i : ℕ) → list_any (λ o. o.required) options ≡ false → is_required (map option_view options) i ≡ false
 none_required [] i none = refl
-none_required (o ∷ os) zero none = (neither o.required (list_any (λ p. p.required) os) none).0
-none_required (o ∷ os) (suc i) none = none_required os i (neither o.required (list_any (λ p. p.required) os) none).1
+none_required (o ∷ os) zero none = (or_parts o.required (list_any (λ p. p.required) os) none).0
+none_required (o ∷ os) (suc i) none = none_required os i (or_parts o.required (list_any (λ p. p.required) os) none).1
 
 -- the first that is missing among the options of a declaration
 pub missing_so : {F V P M S : Type 0} (o : Options F V P M S) (os : List (Declared F V M S)) (seen : List ℕ) (r : Option Names) → os ≡ options_of o

@@ -1,24 +1,22 @@
 -- Which words the positionals of a line accept, word by word.
-use Rattle.std.proofs.Common.{Vec, Result, Ok, Err, IfOk, MatchOption, ◌≡◌, ◌==◌, is_none, ◌↔◌, ◌≤◌, ◌<◌, ◌+◌, ◌-◌, ◌||◌, ℕ, zero, suc, Bool, true, false, List, [], ◌∷◌, length, take, drop, map, get_or, filter, Option, Some, None, slice_get, cond, refl, sym, ap, subst, ◌∙◌, ◌++◌, ⊎_elim, arith}
+use Rattle.std.proofs.Common.{Vec, Result, Ok, Err, IfOk, MatchOption, ◌≡◌, ◌==◌, is_none, ◌↔◌, ◌≤◌, ◌<◌, ◌+◌, ◌-◌, ℕ, zero, suc, Bool, true, false, List, [], ◌∷◌, length, take, drop, map, get_or, filter, Option, Some, None, slice_get, cond, refl, sym, ap, subst, ◌∙◌, ◌++◌, ⊎_elim, arith}
 use Rattle.std.specs.List.{Contains, list_any}
 use Rattle.std.proofs.lemmas.List.Elements.{Contains-append_cases, Contains-append_left, Contains-append_right}
 use Rattle.std.specs.Global.{Global}
 use Rattle.std.specs.Option.{option_eq}
-use Rattle.std.proofs.lemmas.Bool.{cases_lt, eq-eqb, eqb-true, false≢true}
-use Rattle.std.proofs.lemmas.List.{drop_more}
-use Rattle.std.proofs.lemmas.Option.{get_or_from_slice_get, slice_get_within}
-use Rattle.lexopt_options.specs.Declarations.{declaration_of, positionals_of}
+use Rattle.std.proofs.lemmas.Bool.{cases_lt, eq-eqb, eqb-true, false≢true, or_parts}
+use Rattle.std.proofs.lemmas.List.{drop_all, drop_more}
+use Rattle.std.proofs.lemmas.Option.{slice_get_cases}
+use Rattle.lexopt_options.specs.Declarations.{declaration_of}
 use Rattle.lexopt_options.specs.declared.options.Options.{Options}
-use Rattle.lexopt_options_spec.specs.Completion.{AreOwners, CanOwn, IsAscending}
+use Rattle.lexopt_options_spec.specs.Completion.{AreOwners, CanBeTaken, CanOwn, IsAscending}
 use Rattle.lexopt_options_spec.specs.Declaration as spec
 use Rattle.lexopt_options_spec.specs.Legal as legal
 use Rattle.lexopt_options_spec.specs.Legal.{IsWithin, most, positional_words}
-use Rattle.lexopt_options_spec.specs.Places.{AreShares, AreTaken, ArePlaces, IsNotTaken, least, owners, refused_word, takes_at}
-use Rattle.lexopt_options_spec.proofs.Shares.{greedy_are_shares, least_fits, shares_are_greedy, some_places}
-use Rattle.lexopt_options_spec.specs.Places.{greedy}
-use Rattle.lexopt_options_spec.proofs.Taken.{owned_soon, refused_take, taken_soon}
-use Rattle.lexopt_options_spec.specs.Completion.{CanBeTaken}
-use Rattle.lexopt_options.proofs.Owners.{owner_within, take_get}
+use Rattle.lexopt_options_spec.specs.Places.{AreShares, AreTaken, ArePlaces, IsNotTaken, greedy, least, owners, refused_word, takes_at}
+use Rattle.lexopt_options_spec.proofs.Shares.{greedy_are_shares, places_are, some_places}
+use Rattle.lexopt_options_spec.proofs.Taken.{places_spare, refused_take, slice_get_take}
+use Rattle.lexopt_options.proofs.Owners.{owner_within, places_some}
 use Rattle.lexopt_declaration.specs.Models.{positional_view, words_view}
 use Rattle.lexopt_declaration.specs.declared.declaration.Declared.{Declared}
 use Rattle.lexopt_declaration.specs.declared.declaration.Positional.{Positional}
@@ -33,14 +31,9 @@ use Rattle.lexopt_options.specs.Mistakes.{IsMistake}
 use Rattle.lexopt_options.specs.Keys as keys
 use Rattle.lexopt_options.specs.Keys.{AreParsedAs, parsed_words}
 use Rattle.lexopt_options.specs.Taken as taken
-use Rattle.lexopt_options.specs.Taken.{Owns, has_list}
+use Rattle.lexopt_options.specs.Taken.{CanSpare, Fits, has_list}
 
 -- ---- by the number of words that are not required
-
--- the places of words, by the number that are not required
-shares_so : (ps : List spec.Positional) (count : ℕ) (places : List ℕ) → ArePlaces ps count places → places ≡ take count (owners 0 (greedy ps (count - least ps)))
-shares_so ps count places are =
-    are.placed ∙ ap (λ s. take count (owners 0 s)) (shares_are_greedy ps (count - least ps) are.shares (subst (λ n. AreShares ps n are.shares) (omega arith) are.are_shares))
 
 greedy_places : (ps : List spec.Positional) (s : ℕ) → IsWithin (least ps + s) (most ps) → ArePlaces ps (least ps + s) (take (least ps + s) (owners 0 (greedy ps s)))
 greedy_places ps s within = record {
@@ -49,71 +42,67 @@ greedy_places ps s within = record {
   placed = refl;
 }
 
-enough_within : (limit : Option ℕ) (n m : ℕ) → IsWithin n limit → IsWithin m limit → IsWithin (m + (n - m)) limit
-enough_within None n m a b = tt
-enough_within (Some limit) n m a b = omega (arith, a, b)
+accepted_by : (ps : List spec.Positional) (words : List (List ℕ)) (places others : List ℕ) (k : ℕ) → length words ≤ k → take k places ≡ take k others → refused_word ps places words ≡ None → refused_word ps others words ≡ None
+accepted_by ps words places others k few same none =
+    sym (refused_take ps others words k few) ∙ ap (λ l. refused_word ps l words) (sym same) ∙ refused_take ps places words k few ∙ none
 
--- this many words may be beyond the required ones
-pub record CanSpare (ps : List spec.Positional) (count s : ℕ) : Type 0 where
-  pub low : count - least ps ≤ s
-  pub high : s ≤ count
-  pub within : IsWithin (least ps + s) (most ps)
+-- if words can be accepted, they fit for some number of words that are not required
+pub taken_fits : (ps : List spec.Positional) (words : List (List ℕ)) → CanBeTaken ps words → (s : ℕ) × CanSpare ps (length words) s × Fits ps words None s
+taken_fits ps words can =
+    let there = places_spare ps (length words) can.count can.places can.longer can.within can.are_places in
+    let places = owners 0 (greedy ps there.0) in
+    (there.0, record { low = there.1; high = there.2; within = there.3 }, (accepted_by ps words can.places places (length words) (omega arith) there.4 can.none, tt))
 
-pub spare_taken : (ps : List spec.Positional) (words : List (List ℕ)) → CanBeTaken ps words → (s : ℕ) × CanSpare ps (length words) s × (refused_word ps (owners 0 (greedy ps s)) words ≡ None)
-spare_taken ps words can =
-    let soon = taken_soon ps words can in
-    let c = soon.0 in
-    let n = c.count in
-    let long = c.longer in
-    let small = soon.1 in
-    let is = shares_so ps n c.places c.are_places in (
-      n - least ps,
-      record { low = omega (arith, long); high = omega (arith, small); within = enough_within (most ps) n (least ps) c.within (least_fits ps) },
-      sym (refused_take ps (owners 0 (greedy ps (n - least ps))) words n long) ∙ ap (λ l. refused_word ps l words) (sym is) ∙ c.none,
-    )
-
-pub taken_spare : (ps : List spec.Positional) (words : List (List ℕ)) (s : ℕ) → CanSpare ps (length words) s → refused_word ps (owners 0 (greedy ps s)) words ≡ None → CanBeTaken ps words
-taken_spare ps words s can none =
-    let low = can.low in
-    let long : length words ≤ least ps + s = omega (arith, low) in
+pub fits_taken : (ps : List spec.Positional) (words : List (List ℕ)) → (s : ℕ) × CanSpare ps (length words) s × Fits ps words None s → CanBeTaken ps words
+fits_taken ps words (s, can, fits) =
+    let long : length words ≤ least ps + s = (let low = can.low in omega (arith, low)) in
     record {
       count = least ps + s;
       longer = long;
       within = can.within;
       places = take (least ps + s) (owners 0 (greedy ps s));
       are_places = greedy_places ps s can.within;
-      none = refused_take ps (owners 0 (greedy ps s)) words (least ps + s) long ∙ none;
+      none = refused_take ps (owners 0 (greedy ps s)) words (least ps + s) long ∙ fits.0;
     }
 
-pub spare_owned : (ps : List spec.Positional) (words : List (List ℕ)) (i : ℕ) → CanOwn ps words i → (s : ℕ) × CanSpare ps (suc (length words)) s × Owns ps words i s
-spare_owned ps words i can =
-    let soon = owned_soon ps words i can in
-    let c = soon.0 in
-    let m = c.count in
-    let long = c.longer in
-    let small = soon.1 in
-    let is = shares_so ps m c.places c.are_places in (
-      m - least ps,
-      record { low = omega (arith, long); high = omega (arith, small); within = enough_within (most ps) m (least ps) c.within (least_fits ps) },
+-- the same, and the positional of a word after them
+pub owned_fits : (ps : List spec.Positional) (words : List (List ℕ)) (i : ℕ) → CanOwn ps words i → (s : ℕ) × CanSpare ps (length words + 1) s × Fits ps words (Some i) s
+owned_fits ps words i can =
+    let n = length words in
+    let there = places_spare ps (n + 1) can.count can.places (let l = can.longer in omega (arith, l)) can.within can.are_places in
+    let places = owners 0 (greedy ps there.0) in (
+      there.0,
+      record { low = there.1; high = there.2; within = there.3 },
       (
-        sym (take_get m (owners 0 (greedy ps (m - least ps))) (length words) long) ∙ ap (λ l. slice_get l (length words)) (sym is) ∙ c.here,
-        sym (refused_take ps (owners 0 (greedy ps (m - least ps))) words m (omega (arith, long))) ∙ ap (λ l. refused_word ps l words) (sym is) ∙ c.none,
+        accepted_by ps words can.places places (n + 1) (omega arith) there.4 can.none,
+        sym (slice_get_take (n + 1) places n (omega arith)) ∙ ap (λ l. slice_get l n) (sym there.4) ∙ slice_get_take (n + 1) can.places n (omega arith) ∙ can.here,
       ),
     )
 
-pub owned_spare : (ps : List spec.Positional) (words : List (List ℕ)) (i s : ℕ) → CanSpare ps (suc (length words)) s → Owns ps words i s → CanOwn ps words i
-owned_spare ps words i s can owns =
-    let low = can.low in
-    let long : length words < least ps + s = omega (arith, low) in
+pub fits_owned : (ps : List spec.Positional) (words : List (List ℕ)) (i : ℕ) → (s : ℕ) × CanSpare ps (length words + 1) s × Fits ps words (Some i) s → CanOwn ps words i
+fits_owned ps words i (s, can, fits) =
+    let long : length words < least ps + s = (let low = can.low in omega (arith, low)) in
     record {
       count = least ps + s;
       longer = long;
       within = can.within;
       places = take (least ps + s) (owners 0 (greedy ps s));
       are_places = greedy_places ps s can.within;
-      none = refused_take ps (owners 0 (greedy ps s)) words (least ps + s) (omega (arith, long)) ∙ owns.1;
-      here = take_get (least ps + s) (owners 0 (greedy ps s)) (length words) long ∙ owns.0;
+      none = refused_take ps (owners 0 (greedy ps s)) words (least ps + s) (omega (arith, long)) ∙ fits.0;
+      here = slice_get_take (least ps + s) (owners 0 (greedy ps s)) (length words) long ∙ fits.1;
     }
+
+pub ruleset fits = (taken_fits, fits_taken, owned_fits, fits_owned)
+
+-- if none fits of the numbers that were tried, none does
+pub none_fits : (ps : List spec.Positional) (words : List (List ℕ)) (count high past : ℕ) (next : Option ℕ) → ((s : ℕ) → (s ≤ high) ↔ ((s ≤ count) × IsWithin (least ps + s) (most ps))) → high < past
+    → ((s : ℕ) → count - least ps ≤ s → s < past → ¬ Fits ps words next s) → ¬ ((s : ℕ) × CanSpare ps count s × Fits ps words next s)
+none_fits ps words count high past next most_are over none (s, can, fits) =
+    let within = (most_are s).1 (can.high, can.within) in none s can.low (omega (arith, over, within)) fits
+
+-- none before, and not this one
+pub and_not : (P : ℕ → Type 0) (low n : ℕ) → ((s : ℕ) → low ≤ s → s < n → ¬ P s) → ¬ P n → (s : ℕ) → low ≤ s → s < n + 1 → ¬ P s
+and_not P low n before not s above below = ⊎_elim (λ less. before s above less) (λ past. let same : n ≡ s = omega (arith, below, past) in λ is. not (subst P (sym same) is)) (cases_lt s n)
 
 -- ---- the words of a line, one after another
 
@@ -121,57 +110,31 @@ refused_none : (ps : List spec.Positional) (places : List ℕ) → refused_word 
 refused_none ps [] = refl
 refused_none ps (i ∷ places) = refl
 
-places_none : (places : List ℕ) (n : ℕ) → slice_get places n ≡ None → drop n places ≡ []
-places_none [] zero is = refl
-places_none [] (suc n) is = refl
-places_none (p ∷ places) zero is = absurd (let e : Some p ≡ None = is in cc)
-places_none (p ∷ places) (suc n) is = places_none places n is
-
-places_some : (places : List ℕ) (n i : ℕ) → slice_get places n ≡ Some i → drop n places ≡ i ∷ drop (n + 1) places
-places_some places n i is =
-    let within = slice_get_within places n i is in
-    drop_more places n 0 within ∙ ap (λ x. x ∷ drop (n + 1) places) (get_or_from_slice_get places n i 0 is)
-
-drop_more_past : (places : List ℕ) (n : ℕ) → drop n places ≡ [] → drop (suc n) places ≡ []
-drop_more_past [] n is = refl
-drop_more_past (p ∷ places) zero is = absurd (let e : p ∷ places ≡ [] = is in cc)
-drop_more_past (p ∷ places) (suc n) is = drop_more_past places n is
-
-drop_past : (places : List ℕ) (n : ℕ) → drop n places ≡ [] → drop (n + 1) places ≡ []
-drop_past places n is = let same : n + 1 ≡ suc n = omega arith in ap (λ m. drop m places) same ∙ drop_more_past places n is
+no_place : (places : List ℕ) (n : ℕ) → slice_get places n ≡ None → length places ≤ n
+no_place places n is = ⊎_elim (λ here. absurd (let e : Some here.0 ≡ None = sym here.2 ∙ is in cc)) (λ past. past.0) (slice_get_cases places n).1
 
 -- the first refused word of all words is that of the words that are left
-pub record IsAt (ps : List spec.Positional) (places : List ℕ) (all rest : List (List ℕ)) (n : ℕ) : Type 0 where
-  pub same : refused_word ps places all ≡ refused_word ps (drop n places) rest
-
-pub at_first : (ps : List spec.Positional) (places : List ℕ) (all : List (List ℕ)) → IsAt ps places all all 0
-at_first ps places all = record { same = refl }
+abbrev pub IsAt : List spec.Positional → List ℕ → List (List ℕ) → List (List ℕ) → ℕ → Type 0
+IsAt ps places all rest n = refused_word ps places all ≡ refused_word ps (drop n places) rest
 
 pub at_end : (ps : List spec.Positional) (places : List ℕ) (all rest : List (List ℕ)) (n : ℕ) → IsAt ps places all rest n → rest ≡ [] → refused_word ps places all ≡ None
-at_end ps places all rest n at is = at.same ∙ ap (refused_word ps (drop n places)) is ∙ refused_none ps (drop n places)
-
-pub at_same : (ps : List spec.Positional) (places : List ℕ) (all rest : List (List ℕ)) (n m : ℕ) → n ≡ m → IsAt ps places all rest n → IsAt ps places all rest m
-at_same ps places all rest n m same at = subst (IsAt ps places all rest) same at
-
--- the next thing is not a word
-pub at_later : (ps : List spec.Positional) (places : List ℕ) (all rest later : List (List ℕ)) (n : ℕ) → IsAt ps places all rest n → rest ≡ later → IsAt ps places all later n
-at_later ps places all rest later n at same = subst (λ l. IsAt ps places all l n) same at
+at_end ps places all rest n at is = at ∙ ap (refused_word ps (drop n places)) is ∙ refused_none ps (drop n places)
 
 -- there is no positional for a word
 pub at_no_place : (ps : List spec.Positional) (places : List ℕ) (all rest later : List (List ℕ)) (w : List ℕ) (n : ℕ) → IsAt ps places all rest n → rest ≡ w ∷ later → slice_get places n ≡ None → IsAt ps places all later (n + 1)
 at_no_place ps places all rest later w n at is none =
-    let here = places_none places n none in
-    record { same = at.same ∙ ap (λ l. refused_word ps l rest) here ∙ sym (ap (λ l. refused_word ps l later) (drop_past places n here)) }
+    let past = no_place places n none in
+    at ∙ ap (λ l. refused_word ps l rest) (drop_all n places past) ∙ sym (ap (λ l. refused_word ps l later) (drop_all (n + 1) places (omega (arith, past))))
 
 at_place : (ps : List spec.Positional) (places : List ℕ) (all rest later : List (List ℕ)) (w : List ℕ) (n i : ℕ) → IsAt ps places all rest n → rest ≡ w ∷ later → slice_get places n ≡ Some i
     → refused_word ps places all ≡ cond (takes_at ps i w) (refused_word ps (drop (n + 1) places) later) (Some (i, w))
-at_place ps places all rest later w n i at is here = at.same ∙ ap (refused_word ps (drop n places)) is ∙ ap (λ l. refused_word ps l (w ∷ later)) (places_some places n i here)
+at_place ps places all rest later w n i at is here = at ∙ ap (refused_word ps (drop n places)) is ∙ ap (λ l. refused_word ps l (w ∷ later)) (places_some places n i here)
 
 -- a word is accepted
 pub at_next : (ps : List spec.Positional) (places : List ℕ) (all rest later : List (List ℕ)) (w : List ℕ) (n i : ℕ) → IsAt ps places all rest n → rest ≡ w ∷ later → slice_get places n ≡ Some i → takes_at ps i w ≡ true
     → IsAt ps places all later (n + 1)
 at_next ps places all rest later w n i at is here takes =
-    record { same = at_place ps places all rest later w n i at is here ∙ ap (λ (b : Bool). cond b (refused_word ps (drop (n + 1) places) later) (Some (i, w))) takes }
+    at_place ps places all rest later w n i at is here ∙ ap (λ (b : Bool). cond b (refused_word ps (drop (n + 1) places) later) (Some (i, w))) takes
 
 -- a word is not accepted
 pub at_refused : (ps : List spec.Positional) (places : List ℕ) (all rest later : List (List ℕ)) (w : List ℕ) (n i : ℕ) → IsAt ps places all rest n → rest ≡ w ∷ later → slice_get places n ≡ Some i → takes_at ps i w ≡ false
@@ -199,10 +162,7 @@ parsed_no_word {F} {V} {P} {M} {S} xs k x within is other = parsed_front xs k x 
     go (parsed.Positional key word) other = absurd (other key word refl)
 
 pub parsed_past : {F V P M S : Type 0} (xs : List (Parsed F V P M S)) (k : ℕ) → length xs ≤ k → parsed_words (drop k xs) ≡ []
-parsed_past [] zero past = refl
-parsed_past [] (suc k) past = refl
-parsed_past (x ∷ xs) zero past = absurd (omega (arith, past))
-parsed_past (x ∷ xs) (suc k) past = parsed_past xs k (omega (arith, past))
+parsed_past xs k past = ap parsed_words (drop_all k xs past)
 
 -- the words of the positionals that were read
 pub words_are : {F V P M S : Type 0} (options : List (Declared F V M S)) (l : List legal.Parsed) (xs : List (Parsed F V P M S)) → AreParsedAs options l xs → positional_words l ≡ parsed_words xs
@@ -220,28 +180,18 @@ words_are options (s ∷ l) (parsed.Positional key word ∷ xs) are = ap (λ t. 
 pub word_next : (words : List (List ℕ)) (k : ℕ) (w : List ℕ) → k < length words → w ≡ get_or words k w → drop k words ≡ w ∷ drop (k + 1) words
 word_next words k w within is = drop_more words k w within ∙ ap (λ x. x ∷ drop (k + 1) words) (sym is)
 
-pub none_left : (words : List (List ℕ)) (k : ℕ) → length words ≤ k → drop k words ≡ []
-none_left [] zero past = refl
-none_left [] (suc k) past = refl
-none_left (w ∷ words) zero past = absurd (omega (arith, past))
-none_left (w ∷ words) (suc k) past = none_left words k (omega (arith, past))
-
 -- ---- where there are no lists
-
-or_none : (a b : Bool) → (a || b) ≡ false → (a ≡ false) × (b ≡ false)
-or_none false b is = (refl, is)
-or_none true b is = absurd (false≢true (sym is))
 
 takes_any : {P : Type 0} (ps : List (Positional P)) (i : ℕ) (w : List ℕ) → list_any (λ p. has_list p) ps ≡ false → takes_at (map positional_view ps) i w ≡ true
 takes_any [] i w none = refl
-takes_any (p ∷ ps) zero w none = go p.words (or_none (has_list p) (list_any (λ p. has_list p) ps) none).0
+takes_any (p ∷ ps) zero w none = go p.words (or_parts (has_list p) (list_any (λ p. has_list p) ps) none).0
   where
     go : (ws : Words) → taken.is_list ws ≡ false → spec.accepts (words_view ws) w ≡ true
     go words.Files is = refl
     go words.Directories is = refl
     go words.Text is = refl
     go (words.Listed values) is = absurd (false≢true (sym is))
-takes_any (p ∷ ps) (suc i) w none = takes_any ps i w (or_none (has_list p) (list_any (λ p. has_list p) ps) none).1
+takes_any (p ∷ ps) (suc i) w none = takes_any ps i w (or_parts (has_list p) (list_any (λ p. has_list p) ps) none).1
 
 pub takes_all : {P : Type 0} (ps : List (Positional P)) (places : List ℕ) (ws : List (List ℕ)) → list_any (λ p. has_list p) ps ≡ false → refused_word (map positional_view ps) places ws ≡ None
 takes_all ps [] ws none = refl
@@ -256,7 +206,7 @@ all_taken ps ws none within =
 -- ---- at the end of a line
 
 so_many : (ps : List spec.Positional) (ws : List (List ℕ)) (places : List ℕ) → ArePlaces ps (length ws) places → refused_word ps places ws ≡ refused_word ps (owners 0 (greedy ps (length ws - least ps))) ws
-so_many ps ws places are = ap (λ l. refused_word ps l ws) (shares_so ps (length ws) places are) ∙ refused_take ps (owners 0 (greedy ps (length ws - least ps))) ws (length ws) (omega arith)
+so_many ps ws places are = ap (λ l. refused_word ps l ws) (places_are ps (length ws) places are) ∙ refused_take ps (owners 0 (greedy ps (length ws - least ps))) ws (length ws) (omega arith)
 
 pub are_taken : (ps : List spec.Positional) (ws : List (List ℕ)) (spare : ℕ) → IsWithin (length ws) (most ps) → spare ≡ length ws - least ps → refused_word ps (owners 0 (greedy ps spare)) ws ≡ None → AreTaken ps ws
 are_taken ps ws spare within is none =
@@ -321,7 +271,7 @@ owners_are ps words n owners more same are = subst (λ (v : Vec ℕ Global). Own
 
 -- a positional that a word can belong to is declared
 owned_within : (ps : List spec.Positional) (words : List (List ℕ)) (i : ℕ) → CanOwn ps words i → i < length ps
-owned_within ps words i can = let s = spare_owned ps words i can in let w = owner_within ps 0 s.0 (length words) i s.2.0 in omega (arith, w)
+owned_within ps words i can = let s = owned_fits ps words i can in let w = owner_within ps 0 s.0 (length words) i s.2.1 in omega (arith, w)
 
 pub all_owners : (ps : List spec.Positional) (words : List (List ℕ)) (n : ℕ) (owners : List ℕ) → OwnersUpTo ps words n owners → length ps ≤ n → AreOwners ps words owners
 all_owners ps words n owners are past = record {
@@ -330,47 +280,7 @@ all_owners ps words n owners are past = record {
   in_order = are.in_order;
 }
 
--- ---- the numbers of words that are not required, which are tried
-
--- s words may be beyond the required ones if and only if s is one of the numbers from low to high
-pub can_spare : (ps : List spec.Positional) (count low high s : ℕ) → low ≡ count - least ps → ((s : ℕ) → (s ≤ high) ↔ ((s ≤ count) × IsWithin (least ps + s) (most ps))) → low ≤ s → s ≤ high → CanSpare ps count s
-can_spare ps count low high s low_is most_are above below =
-    let both = (most_are s).0 below in record { low = omega (arith, low_is, above); high = both.0; within = both.1 }
-
-pub spare_within : (ps : List spec.Positional) (count high s : ℕ) → ((s : ℕ) → (s ≤ high) ↔ ((s ≤ count) × IsWithin (least ps + s) (most ps))) → CanSpare ps count s → s ≤ high
-spare_within ps count high s most_are can = (most_are s).1 (can.high, can.within)
-
--- a number is found
-pub taken_found : (ps : List spec.Positional) (words : List (List ℕ)) (count low high s : ℕ) → count ≡ length words → low ≡ count - least ps → ((s : ℕ) → (s ≤ high) ↔ ((s ≤ count) × IsWithin (least ps + s) (most ps))) → low ≤ s → s ≤ high
-    → refused_word ps (owners 0 (greedy ps s)) words ≡ None → CanBeTaken ps words
-taken_found ps words count low high s counted low_is most_are above below none =
-    taken_spare ps words s (subst (λ n. CanSpare ps n s) counted (can_spare ps count low high s low_is most_are above below)) none
-
--- no number is found
-pub taken_never : (ps : List spec.Positional) (words : List (List ℕ)) (count high past : ℕ) → count ≡ length words → ((s : ℕ) → (s ≤ high) ↔ ((s ≤ count) × IsWithin (least ps + s) (most ps))) → high < past
-    → ((s : ℕ) → count - least ps ≤ s → s < past → ¬ (refused_word ps (owners 0 (greedy ps s)) words ≡ None)) → ¬ CanBeTaken ps words
-taken_never ps words count high past counted most_are over none can =
-    let there = spare_taken ps words can in
-    let spares = subst (λ n. CanSpare ps n there.0) (sym counted) there.1 in
-    let within = spare_within ps count high there.0 most_are spares in
-    none there.0 spares.low (omega (arith, over, within)) there.2
-
-pub owned_found : (ps : List spec.Positional) (words : List (List ℕ)) (count low high s i : ℕ) → count ≡ suc (length words) → low ≡ count - least ps → ((s : ℕ) → (s ≤ high) ↔ ((s ≤ count) × IsWithin (least ps + s) (most ps))) → low ≤ s → s ≤ high
-    → Owns ps words i s → CanOwn ps words i
-owned_found ps words count low high s i counted low_is most_are above below owns =
-    owned_spare ps words i s (subst (λ n. CanSpare ps n s) counted (can_spare ps count low high s low_is most_are above below)) owns
-
-pub owned_never : (ps : List spec.Positional) (words : List (List ℕ)) (count high past i : ℕ) → count ≡ suc (length words) → ((s : ℕ) → (s ≤ high) ↔ ((s ≤ count) × IsWithin (least ps + s) (most ps))) → high < past
-    → ((s : ℕ) → count - least ps ≤ s → s < past → ¬ Owns ps words i s) → ¬ CanOwn ps words i
-owned_never ps words count high past i counted most_are over none can =
-    let there = spare_owned ps words i can in
-    let spares = subst (λ n. CanSpare ps n there.0) (sym counted) there.1 in
-    let within = spare_within ps count high there.0 most_are spares in
-    none there.0 spares.low (omega (arith, over, within)) there.2
-
--- none before, and not this one
-pub and_not : (P : ℕ → Type 0) (low n : ℕ) → ((s : ℕ) → low ≤ s → s < n → ¬ P s) → ¬ P n → (s : ℕ) → low ≤ s → s < n + 1 → ¬ P s
-and_not P low n before not s above below = ⊎_elim (λ less. before s above less) (λ past. let same : n ≡ s = omega (arith, below, past) in λ is. not (subst P (sym same) is)) (cases_lt s n)
+-- ---- what the code computes
 
 pub is_nothing : (o : Option (ℕ × List ℕ)) → is_none o ≡ true → o ≡ None
 is_nothing None is = refl
@@ -393,23 +303,13 @@ parsed_counted (parsed.Values key values ∷ xs) = parsed_counted xs
 parsed_counted (parsed.Positional key word ∷ xs) = ap suc (parsed_counted xs)
 
 -- what is found for the words of a line
-pub invalid_so : {P : Type 0} (ps : List (Positional P)) (ws : List (List ℕ)) (spare : ℕ) (r : Result (Option Mistake) AllocError) → spare ≡ length ws - least (map positional_view ps)
+pub invalid_line : {F V P M S : Type 0} (o : Options F V P M S) (ps : List (Positional P)) (ws : List (List ℕ)) (spare : ℕ) (r : Result (Option Mistake) AllocError) → map positional_view ps ≡ (declaration_of o).positionals
+    → spare ≡ length ws - least (map positional_view ps)
     → IfOk r (λ found. MatchOption found (refused_word (map positional_view ps) (owners 0 (greedy (map positional_view ps) spare)) ws ≡ None)
     (λ mistake. (i : ℕ) × (w : List ℕ) × (refused_word (map positional_view ps) (owners 0 (greedy (map positional_view ps) spare)) ws ≡ Some (i, w)) × taken.IsInvalid ps i w mistake))
-    → IfOk r (λ found. IsWithin (length ws) (most (map positional_view ps)) → MatchOption found (AreTaken (map positional_view ps) ws)
-    (λ mistake. (i : ℕ) × (w : List ℕ) × IsNotTaken (map positional_view ps) ws i w × taken.IsInvalid ps i w mistake))
-invalid_so ps ws spare (Ok None) is found = λ within. are_taken (map positional_view ps) ws spare within is found
-invalid_so ps ws spare (Ok (Some m)) is (i, w, refused, invalid) = λ within. (i, w, not_taken (map positional_view ps) ws spare i w within is refused, invalid)
-invalid_so ps ws spare (Err e) is found = tt
-
--- the same for the positionals of a declaration
-pub invalid_line : {F V P M S : Type 0} (o : Options F V P M S) (ps : List (Positional P)) (ws : List (List ℕ)) (r : Result (Option Mistake) AllocError) → ps ≡ positionals_of o
-    → IfOk r (λ found. IsWithin (length ws) (most (map positional_view ps)) → MatchOption found (AreTaken (map positional_view ps) ws)
-    (λ mistake. (i : ℕ) × (w : List ℕ) × IsNotTaken (map positional_view ps) ws i w × taken.IsInvalid ps i w mistake))
     → IfOk r (λ found. IsWithin (length ws) (most (declaration_of o).positionals) → MatchOption found (AreTaken (declaration_of o).positionals ws)
     (λ mistake. (i : ℕ) × (w : List ℕ) × IsNotTaken (declaration_of o).positionals ws i w × IsMistake (declaration_of o) mistake (stops.invalid_argument i w)))
-invalid_line o ps ws (Ok None) is found = λ within. subst (λ qs. AreTaken (map positional_view qs) ws) is (found (subst (λ qs. IsWithin (length ws) (most (map positional_view qs))) (sym is) within))
-invalid_line o ps ws (Ok (Some m)) is found = λ within.
-    let own = found (subst (λ qs. IsWithin (length ws) (most (map positional_view qs))) (sym is) within) in
-    (own.0, own.1, subst (λ qs. IsNotTaken (map positional_view qs) ws own.0 own.1) is own.2, own.3 (declaration_of o) (ap (map positional_view) (sym is)))
-invalid_line o ps ws (Err e) is found = tt
+invalid_line o ps ws spare (Ok None) same so found = λ within. subst (λ qs. AreTaken qs ws) same (are_taken _ ws spare (subst (λ qs. IsWithin (length ws) (most qs)) (sym same) within) so found)
+invalid_line o ps ws spare (Ok (Some m)) same so (i, w, refused, invalid) = λ within.
+    (i, w, subst (λ qs. IsNotTaken qs ws i w) same (not_taken _ ws spare i w (subst (λ qs. IsWithin (length ws) (most qs)) (sym same) within) so refused), invalid (declaration_of o) (sym same))
+invalid_line o ps ws spare (Err e) same so found = tt

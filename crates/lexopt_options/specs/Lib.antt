@@ -15,3 +15,4 @@ pub mod Roles
 pub mod Usage
 pub mod Answers
 pub mod Kinds
+pub mod RestStarts

@@ -20,6 +20,9 @@ use Rattle.lexopt_options_spec.specs.Stops as stops
 use Rattle.lexopt_options_spec.specs.Stops.{IsOfOption, ReadsUpTo, Stops, StopsAt}
 use Rattle.lexopt_options.specs.declared.mistake.Mistake.{Mistake}
 use Rattle.lexopt_options.specs.declared.options.Options.{Options}
+use Rattle.lexopt_options.specs.declared.rest.RestStart.{RestStart}
+use Rattle.lexopt_options.specs.declared.rest.RestStart.TheVariants.{Separated}
+use Rattle.lexopt_options.specs.RestStarts.{is_separated}
 use Rattle.lexopt_options.specs.declared.parsed.Parsed.{Parsed}
 use Rattle.lexopt_options.specs.declared.read.Ended.{Ended}
 use Rattle.lexopt_options.specs.declared.read.Ended.TheVariants as ended
@@ -133,16 +136,16 @@ IsInvalidValue option value mistake = (d : Declaration) (i : ℕ)
 
 -- ---- how the reading of a line ends
 
--- The line u was read up to v, and this was read, by keys, with `count` positionals, of which there
--- may be `limit`. Nothing was asked for.
-pub record HasRead {F V P M S : Type 0} (o : Options F V P M S) (limit : Option ℕ) (u v : UnreadLine)
-    (count : ℕ) (seen : List ℕ) (parsed : List (Parsed F V P M S)) : Type 0 where
+-- The line u was read up to v, and this was read, by keys, with `count` positionals. Nothing was
+-- asked for. If a rest begins after the separator, that was not read.
+pub record HasRead {F V P M S : Type 0} (o : Options F V P M S) (begins : RestStart)
+    (u v : UnreadLine) (count : ℕ) (seen : List ℕ) (parsed : List (Parsed F V P M S)) : Type 0 where
   pub l : List spec.Parsed
   pub read : ReadsUpTo (declaration_of o) u l v
+  pub before : begins ≡ Separated → v.ended ≡ false
   pub none : first_asked (declaration_of o).options l ≡ None
   pub are : AreParsedAs (options_of o) l parsed
   pub counted : count ≡ positional_count l
-  pub limited : IsWithin count limit
   pub are_seen : AreSeen (declaration_of o).options l seen
   pub firsts : AllFirst (positionals_of o) (positional_keys parsed)
   pub accepted : are_accepted (declaration_of o).options l ≡ true
@@ -165,18 +168,17 @@ pub record IsNothing {F V P M S : Type 0} (read : Read F V P M S) : Type 0 where
   pub seen : read.seen.items ≡ []
   pub count : read.count ≡ 0
 
--- the reading of the words, up to one positional more than `limit`, ends so
-abbrev pub HasEnded : {F V P M S : Type 0} → Options F V P M S → List (List ℕ) → Option ℕ → ℕ → List ℕ
-    → List (Parsed F V P M S) → Ended → UnreadLine → Type 0
-HasEnded o words limit count seen parsed ended.End v = (u : UnreadLine)
-    × HasRead o limit (start (declaration_of o).short_equals words) u count seen parsed
+-- the reading of the words ends so, if a rest may begin there
+abbrev pub HasEnded : {F V P M S : Type 0} → Options F V P M S → List (List ℕ) → RestStart → ℕ
+    → List ℕ → List (Parsed F V P M S) → Ended → UnreadLine → Type 0
+HasEnded o words begins count seen parsed ended.End v = (u : UnreadLine)
+    × HasRead o begins (start (declaration_of o).short_equals words) u count seen parsed
     × Next u steps.end v
-HasEnded o words limit count seen parsed (ended.Positional word) v = (u : UnreadLine)
-    × HasRead o limit (start (declaration_of o).short_equals words) u count seen parsed
-    × Next u (steps.positional word) v × (limit ≡ Some count)
-HasEnded o words limit count seen parsed (ended.Asked asked) v =
-    (asks : AskFor (declaration_of o) words (asked_view asked))
-    × IsWithin (positional_count asks.before) limit
-HasEnded o words limit count seen parsed (ended.Mistake mistake) v =
+HasEnded o words begins count seen parsed (ended.Positional word) v = (u : UnreadLine)
+    × HasRead o begins (start (declaration_of o).short_equals words) u count seen parsed
+    × Next u (steps.positional word) v
+    × (is_separated begins v.ended ≡ false → most (declaration_of o).positionals ≡ Some count)
+HasEnded o words begins count seen parsed (ended.Asked asked) v =
+    AskFor (declaration_of o) words (asked_view asked)
+HasEnded o words begins count seen parsed (ended.Mistake mistake) v =
     (stopped : HasStopped o words parsed mistake) × IsOfOption stopped.why
-    × IsWithin (positional_count stopped.read) limit

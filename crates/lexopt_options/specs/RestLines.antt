@@ -3,7 +3,7 @@
 use Rattle.std.specs.Prelude.{◌≡◌, ◌∷◌, ℕ, List, [], string_bytes}
 use Rattle.lexopt_options_spec.specs.Asking.{AskFor}
 use Rattle.lexopt_options_spec.specs.Legal as legal
-use Rattle.lexopt_options_spec.specs.Rest.{HaveNoRest, IsSplit}
+use Rattle.lexopt_options_spec.specs.Rest.{HaveNoRest, IsSplit, RestStart}
 use Rattle.lexopt_options_spec.specs.Stops.{IsOfOption}
 use Rattle.lexopt_options.specs.declared.options.Options.{Options}
 use Rattle.lexopt_options.specs.declared.refused.Line.{Line}
@@ -24,14 +24,14 @@ IsEarly o words (line.Refused refused) = (why : IsRefused o words refused) × Is
 
 -- The result of reading these words: that of their front, and the rest; or that of all of them, if
 -- they have no rest, or if an option ends their reading.
-pub data IsRestRead {F V P M S : Type 0} (o : Options F V P M S) (words : List (List ℕ))
-    : List (List ℕ) → Line F V P M S → Type 0 where
+pub data IsRestRead {F V P M S : Type 0} (start : RestStart) (o : Options F V P M S)
+    (words : List (List ℕ)) : List (List ℕ) → Line F V P M S → Type 0 where
   by_front : (front : List (List ℕ)) (word : List ℕ) (more : List (List ℕ)) (read : Line F V P M S)
-      → IsSplit (declaration_of o) words front word more → IsLineRead o front read
-      → IsRestRead o words (word ∷ more) read
-  by_all : (read : Line F V P M S) → HaveNoRest (declaration_of o) words → IsLineRead o words read
-      → IsRestRead o words [] read
-  early : (read : Line F V P M S) → IsEarly o words read → IsRestRead o words [] read
+      → IsSplit start (declaration_of o) words front word more → IsLineRead o front read
+      → IsRestRead start o words (word ∷ more) read
+  by_all : (read : Line F V P M S) → HaveNoRest start (declaration_of o) words
+      → IsLineRead o words read → IsRestRead start o words [] read
+  early : (read : Line F V P M S) → IsEarly o words read → IsRestRead start o words [] read
 
 -- the result is this list, by the keys, and this rest; or what the list asks for
 abbrev pub IsRestOf : {F V P M S : Type 0} → Options F V P M S → List legal.Parsed → List (List ℕ)
@@ -43,10 +43,11 @@ IsRestOf o l rest others (line.Refused refused) = ⊥
 
 -- the words have this rest; or they have none, and this is the text of what can come where this is
 -- typed, and whether a rest can begin there
-abbrev pub IsRestCompletion : {F V P M S : Type 0} → Options F V P M S → List (List ℕ) → List ℕ
-    → RestCompletion → Type 0
-IsRestCompletion o words typed (found.Rest rest) = (front : List (List ℕ)) × (word : List ℕ)
-    × (more : List (List ℕ)) × IsSplit (declaration_of o) words front word more
+abbrev pub IsRestCompletion : {F V P M S : Type 0} → RestStart → Options F V P M S
+    → List (List ℕ) → List ℕ → RestCompletion → Type 0
+IsRestCompletion start o words typed (found.Rest rest) = (front : List (List ℕ)) × (word : List ℕ)
+    × (more : List (List ℕ)) × IsSplit start (declaration_of o) words front word more
     × (rest.items ≡ word ∷ more)
-IsRestCompletion o words typed (found.Text text begins) = HaveNoRest (declaration_of o) words
-    × IsCompletionText o words typed (string_bytes text) × TellsRest (declaration_of o) words begins
+IsRestCompletion start o words typed (found.Text text begins) =
+    HaveNoRest start (declaration_of o) words × IsCompletionText o words typed (string_bytes text)
+    × TellsRest start (declaration_of o) words begins

@@ -1,9 +1,10 @@
 -- Which words positionals accept, as contracts see it.
-use Rattle.std.specs.Prelude.{◌≡◌, ℕ, Bool, true, false, List, Option, Some, None, length, map}
-use Rattle.std.specs.Prelude.{slice_get}
+use Rattle.std.specs.Prelude.{◌≡◌, ◌≤◌, ◌+◌, ◌-◌, ℕ, Bool, true, false, List, Option, Some, None}
+use Rattle.std.specs.Prelude.{IfSome, length, map, slice_get}
 use Rattle.std.specs.Option.{MatchOption}
 use Rattle.lexopt_options_spec.specs.Declaration.{Declaration, Positional, accepts}
-use Rattle.lexopt_options_spec.specs.Places.{greedy, owners, refused_word, takes_at}
+use Rattle.lexopt_options_spec.specs.Legal.{IsWithin, most}
+use Rattle.lexopt_options_spec.specs.Places.{greedy, least, owners, refused_word, takes_at}
 use Rattle.lexopt_options_spec.specs.Stops as stops
 use Rattle.lexopt_declaration.specs.Models.{positional_view, words_view}
 use Rattle.lexopt_declaration.specs.declared.declaration.Positional as rust
@@ -41,8 +42,15 @@ IsRefusalAt positionals index word found = MatchOption found
     (λ mistake. (takes_at (map positional_view positionals) index word ≡ false)
     × IsInvalid positionals index word mistake)
 
--- where there are this many more words than are required, a word after these words belongs to the
--- positional at this index, and each of these words to one that accepts it
-abbrev pub Owns : List Positional → List (List ℕ) → ℕ → ℕ → Type 0
-Owns ps words index spare = (slice_get (owners 0 (greedy ps spare)) (length words) ≡ Some index)
-    × (refused_word ps (owners 0 (greedy ps spare)) words ≡ None)
+-- A line of at least this many words can have this many more than are required. A line with more
+-- of them gives the first `count` words to the same positionals.
+pub record CanSpare (ps : List Positional) (count spare : ℕ) : Type 0 where
+  pub low : count - least ps ≤ spare
+  pub high : spare ≤ count
+  pub within : IsWithin (least ps + spare) (most ps)
+
+-- where there are this many more words than are required, each of these words belongs to a
+-- positional that accepts it, and a word after them to the one at the index `next`, if there is one
+abbrev pub Fits : List Positional → List (List ℕ) → Option ℕ → ℕ → Type 0
+Fits ps words next spare = (refused_word ps (owners 0 (greedy ps spare)) words ≡ None)
+    × IfSome next (λ i. slice_get (owners 0 (greedy ps spare)) (length words) ≡ Some i)

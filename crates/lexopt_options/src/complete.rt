@@ -64,8 +64,8 @@ pub struct Joined<'a, F, V = Infallible, M = Infallible, S = Infallible> {
 #[derive(Debug, Drop)]
 pub struct Completion<'a, F, V = Infallible, M = Infallible, S = Infallible> {
     /// The spellings of declared options that can come there and begin with what was typed, in the
-    /// order of the declaration. Hidden options have none here. There are none if what was typed is
-    /// not UTF-8.
+    /// order of the declaration. Those of hidden options and of aliases are here only if they were
+    /// typed whole. There are none if what was typed is not UTF-8.
     pub spellings: Vec<Spelling<'a>>,
     /// The words in lists that can come there and begin with what was typed, in the order of the
     /// lists. First come the values of the option of which a word would be a value there; then the
@@ -522,9 +522,10 @@ impl<'a, F, V, P, M, S> Options<'a, F, V, P, M, S> {
     ) -> Result<Completion<'a, F, V, M, S>, AllocError>
         // This is exactly what can come there: the spellings of declared options that begin with
         // what was typed, and after which some words make a legal line where that option occurs, if
-        // the option is not hidden; what each longer word is that begins so and is not an option,
-        // and to which positionals it can belong; the option whose value is typed in the word; and
-        // the values in the lists of these that begin with what was typed.
+        // they are own names of options that are not hidden or were typed whole; what each longer
+        // word is that begins so and is not an option, and to which positionals it can belong; the
+        // option whose value is typed in the word; and the values in the lists of these that begin
+        // with what was typed.
         ensures { IfOk result (λ completion.
             IsCompletion self.now words.items typed.now completion) }
     {

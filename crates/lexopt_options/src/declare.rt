@@ -36,14 +36,15 @@ pub const NO_ALIASES: &[Names<'static>] = &[];
 ///
 /// After that come any of these, in any order:
 ///
-/// - `.hidden()` leaves the option out of the help. Shells do not offer its names, and no hint has
-///   its long name.
+/// - `.hidden()` leaves the option out of the help. Shells offer its names only where they are typed
+///   whole, and no hint has its long name.
 /// - `.heading("Output options")` begins a group in the help with the line `Output options:`. The
 ///   group ends before the next option that has a heading. If the option is hidden, the heading is
 ///   left out with it.
 /// - `.required()` makes it an option that every line has to have.
 /// - `.alias(Names::Long("colour"))` gives it further names, which lines may have like its own. The
-///   help, messages, hints and shells show its own names only. Several of these may follow.
+///   help, messages and hints show its own names only, and shells offer these only where they are
+///   typed whole. Several of these may follow.
 /// - `.one_of(&["fast", "slow"])` lists the values that it accepts, which shells offer.
 /// - `.hide_list()` leaves that list out of the help.
 /// - `.directories()` has shells offer the names of directories for its values.

@@ -1,20 +1,22 @@
 //! What words mean as the beginning of a line, and what the next word is. `read.rt` reads a whole
 //! line by keys.
 ghost use Rattle.std.specs.Prelude.{◌≡◌, ◌≢◌, ◌↔◌, ◌&&◌, ℕ, [], IfOk, IsTrue, List, None, Some};
-ghost use Rattle.std.specs.Prelude.{slice_get};
+ghost use Rattle.std.specs.Prelude.{false, slice_get};
 ghost use Rattle.lexopt_spec.specs.UnreadLine.{IsLine, pending};
 ghost use Rattle.lexopt_line_spec.specs.Readings.{start};
 ghost use Rattle.lexopt_options_spec.specs.Declaration.{Declaration};
 ghost use Rattle.lexopt_options_spec.specs.States as spec;
 ghost use Rattle.lexopt_declaration.specs.Models.{option_view};
-ghost use Rattle.lexopt_options.specs.Begun.{IsBegun};
+ghost use Rattle.lexopt_options.specs.Begun.{IsBegun, is_ended, surplus_begun};
 ghost use Rattle.lexopt_options.specs.Declarations.{declaration_of};
+ghost use Rattle.lexopt_options.specs.RestStarts.{start_view};
 ghost use Rattle.lexopt_options.specs.States.{IsAfterName, first_of, index_if};
 ghost use Rattle.lexopt_options.specs.States.{state_view, with_index};
 
 use crate::listed::{accepts, refused_place};
 use crate::options::Options;
 use crate::read::{Outcome, is_full, read_next};
+use crate::rest::{RestStart, is_separated};
 use lexopt_base::parser::Parser;
 use lexopt_base::refusal::Refusal;
 use lexopt_base::values::read_several;
@@ -54,12 +56,11 @@ pub(crate) struct Front {
 // What words mean as the beginning of a line, or that they have a rest.
 #[derive(Drop)]
 pub(crate) enum Begun {
-    // This word, which was read last, is one positional too many. So the words mean nothing as the
-    // beginning of a line, and nothing with any one word after them. If it and the words after it
-    // are left to another program, it is the first of them.
+    // A rest begins with this word, which was read last. If it is one positional too many, the words
+    // mean nothing as the beginning of a line, and nothing with any one word after them.
     Rest(OsString),
-    // This is what they mean as the beginning of a line; `None` if they mean nothing, and nothing
-    // with any one word after them. No word is one positional too many.
+    // The words have no rest. This is what they mean as the beginning of a line; `None` if they mean
+    // nothing, and nothing with any one word after them.
     Front(Option<Front>),
 }
 
@@ -209,16 +210,29 @@ fn index_if(holds: bool, index: usize) -> Option<usize>
     if holds { Some(index) } else { None }
 }
 
-// Reads words as the beginning of a line, up to one positional too many.
+// What words with one positional too many are.
+fn surplus_begun(begins: RestStart, word: OsString) -> Begun
+    ensures { result ≡ surplus_begun begins word }
+{
+    match begins {
+        RestStart::Surplus => Begun::Rest(word),
+        RestStart::Separated => Begun::Front(None),
+    }
+}
+
+// Reads words as the beginning of a line, up to where a rest begins.
 pub(crate) fn read_front<F, V, P, M, S>(
     alloc: Global,
     parser: &mut Parser,
     options: &Options<'_, F, V, P, M, S>,
+    begins: RestStart,
 ) -> Result<Begun, AllocError>
-    requires { IsLine parser.old }
+    requires line { IsLine parser.old }
+    requires before { parser.old.ended ≡ false }
     ensures { (words : List (List ℕ))
         → parser.old ≡ start (declaration_of options.now).short_equals words
-        → IfOk result (λ begun. IsBegun (declaration_of options.now) words begun parser.new) }
+        → IfOk result (λ begun.
+        IsBegun (start_view begins) (declaration_of options.now) words begun parser.new) }
 {
     let limit = options.most();
     let declared = options.options();
@@ -252,8 +266,11 @@ pub(crate) fn read_front<F, V, P, M, S>(
                 }
             }
             Outcome::Positional(word) => {
-                if is_full(limit, words.len()) {
+                if is_separated(begins, parser) {
                     return Ok(Begun::Rest(word));
+                }
+                if is_full(limit, words.len()) {
+                    return Ok(surplus_begun(begins, word));
                 }
                 words.push(word)?;
                 last = None;
@@ -274,6 +291,13 @@ pub(crate) fn read_front<F, V, P, M, S>(
     }
 }
 
+// Whether the separator was read.
+fn is_ended(state: State) -> bool
+    ensures { result ≡ is_ended state }
+{
+    matches!(state, State::Ended)
+}
+
 // Whether a plain word is a positional in this state.
 fn takes_positional(state: State) -> bool
     ensures { result ≡ spec.takes_positional (state_view state) }
@@ -283,25 +307,38 @@ fn takes_positional(state: State) -> bool
 
 impl<F, V, P, M, S> Options<'_, F, V, P, M, S> {
     ghost use Rattle.std.specs.Prelude.{IfOk, List, ℕ};
-    ghost use Rattle.lexopt_options.specs.Begun.{TellsRest};
+    ghost use Rattle.lexopt_spec.specs.UnreadLine.{UnreadLine};
+    ghost use Rattle.lexopt_options_spec.specs.Rest.{surplus};
+    ghost use Rattle.lexopt_options.specs.Begun.{IsBegun, TellsRest};
     ghost use Rattle.lexopt_options.specs.Declarations.{declaration_of};
-    ghost use Rattle.lexopt_options.specs.States.{IsFrontOf};
+    ghost use Rattle.lexopt_options.specs.RestStarts.{start_view};
+    ghost use Rattle.lexopt_options.specs.States.{IsFront, IsFrontOf};
 
-    // Whether a word that is plain even without a separator before it, such as `add`, would be one
-    // positional too many after words that mean this.
-    pub(crate) fn begins_rest(&self, front: &Option<Front>) -> bool
-        ensures { (words : List (List ℕ)) → IsFrontOf (declaration_of self.now) words front.now
-            → TellsRest (declaration_of self.now) words result }
+    // Whether a rest would begin with a word that is plain even without a separator before it, such
+    // as `add`, after words that mean this.
+    pub(crate) fn begins_rest(&self, begins: RestStart, front: &Option<Front>) -> bool
+        ensures { (words : List (List ℕ)) (u : UnreadLine)
+            → IsBegun (start_view begins) (declaration_of self.now) words (Begun.Front front.now) u
+            → TellsRest (start_view begins) (declaration_of self.now) words result }
     {
         match front {
-            Some(front) => {
-                if takes_positional(front.state) {
-                    is_full(self.most(), front.words.len())
-                } else {
-                    false
-                }
-            }
+            Some(front) => match begins {
+                RestStart::Surplus => self.begins_surplus(front),
+                RestStart::Separated => is_ended(front.state),
+            },
             None => false,
+        }
+    }
+
+    // Whether such a word would be one positional too many.
+    fn begins_surplus(&self, front: &Front) -> bool
+        ensures { (words : List (List ℕ)) → IsFront (declaration_of self.now) words front.now
+            → TellsRest surplus (declaration_of self.now) words result }
+    {
+        if takes_positional(front.state) {
+            is_full(self.most(), front.words.len())
+        } else {
+            false
         }
     }
 
@@ -315,7 +352,7 @@ impl<F, V, P, M, S> Options<'_, F, V, P, M, S> {
         ensures { IfOk result (λ found. IsFrontOf (declaration_of self.now) words.items found) }
     {
         let mut parser = self.parser_of(words);
-        match read_front(alloc, &mut parser, self)? {
+        match read_front(alloc, &mut parser, self, RestStart::Surplus)? {
             Begun::Rest(_) => Ok(None),
             Begun::Front(front) => Ok(front),
         }

@@ -154,10 +154,10 @@
 //!   to [`Options::parse_value`] are also `PartialEq`.
 //! - [`declare!`](crate::declare) lists what a line of the declaration can be. `.required()` is for
 //!   an option that each line must have, `.one_of(&["fast", "slow"])` for values in a list,
-//!   `.hidden()` for an option that the help leaves out and whose names shells and hints do not
-//!   have, and `.alias(Names::Long("colour"))` for a further name, which only lines have. For
-//!   values and positionals shells offer the names of files; after `.directories()` those of
-//!   directories, and after `.text()` nothing.
+//!   `.hidden()` for an option that the help leaves out and whose names hints do not have, and
+//!   `.alias(Names::Long("colour"))` for a further name, which only lines have. Shells offer both
+//!   only where they are typed whole. For values and positionals shells offer the names of files;
+//!   after `.directories()` those of directories, and after `.text()` nothing.
 //!
 //! # What to call
 //!
@@ -238,7 +238,7 @@ pub use options::Options;
 pub use parsed::{Asked, Parsed};
 pub use refused::{Line, Refused, USAGE_ERROR};
 pub use request::Request;
-pub use rest::{RestCompletion, complete_rest, read_rest};
+pub use rest::{RestCompletion, RestStart, complete_rest, read_rest};
 pub use usage::{Report, UsageError};
 
 // The parts of a declaration, and the scripts for shells.

@@ -1,9 +1,7 @@
 //! Which values an option accepts. The file of this name in `lexopt_declaration` prints a list.
-ghost use Rattle.std.specs.Prelude.{◌≡◌, false, not, position};
+ghost use Rattle.std.specs.Prelude.{◌≡◌, ◌==◌, false, map, not, position};
 ghost use Rattle.std.specs.Cmp.Lexicographic.{pointwise};
-ghost use Rattle.std.specs.Prelude.{◌==◌};
 ghost use Rattle.std.specs.List.{list_any};
-ghost use Rattle.std.specs.Prelude.{map};
 ghost use Rattle.lexopt_options_spec.specs.Completion.{list_of};
 ghost use Rattle.lexopt_options_spec.specs.Declaration as spec;
 ghost use Rattle.lexopt_declaration.specs.Models.{words_view};
@@ -54,6 +52,7 @@ fn list_of(words: Words<'_>) -> &[&str]
 }
 
 /// The mistake that a value is not in the list of an option.
+#[tactic(auto, using(crate::proofs::Accepted::refused_list))]
 pub fn invalid_value<'a, F, V, M, S>(
     option: &'a Declared<'a, F, V, M, S>,
     value: OsString,

@@ -3,12 +3,11 @@ ghost use Rattle.std.specs.Prelude.{◌≡◌, ◌≤◌, ◌<◌, ◌-◌, ℕ,
 ghost use Rattle.std.specs.Prelude.{slice_get, true};
 ghost use Rattle.lexopt_options_spec.specs.Legal as legal;
 ghost use Rattle.lexopt_options_spec.specs.Places as spec;
-ghost use Rattle.lexopt_options_spec.specs.Places.{ArePlaces, least, owners};
-ghost use Rattle.lexopt_options_spec.specs.Places.{extra, greedy};
+ghost use Rattle.lexopt_options_spec.specs.Places.{ArePlaces, extra, greedy, least, owners};
 ghost use Rattle.lexopt_declaration.specs.Models.{count_view, positional_view};
 ghost use Rattle.lexopt_declaration.specs.declared.declaration.Declared.{Declared};
 ghost use Rattle.lexopt_options.specs.Keys as keys;
-ghost use Rattle.lexopt_options.specs.Keys.{AllFirst, AreParsedAs, CanHaveKeys, HasKey, HaveKeys};
+ghost use Rattle.lexopt_options.specs.Keys.{AreParsedAs, CanHaveKeys, HasKey, HaveKeys};
 ghost use Rattle.lexopt_options.specs.Keys.{IsGiven, IsSame};
 
 use crate::parsed::Parsed;
@@ -84,18 +83,14 @@ fn key_of<P: Copy>(positionals: &[Positional<'_, P>], spare: usize, word: usize)
     }
 }
 
-// Whether this is a positional.
-fn is_positional<F, V, P, M, S>(own: &Parsed<F, V, P, M, S>) -> bool
-    ensures { result ≡ keys.is_positional own.now }
-{
-    matches!(own, Parsed::Positional(_, _))
-}
-
 /// How many positionals are among these.
 pub fn count_of<F, V, P, M, S>(parsed: &[Parsed<F, V, P, M, S>]) -> usize
     ensures { result ≡ length (filter (λ own. keys.is_positional own) parsed.now) }
 {
-    parsed.iter().filter(|own| is_positional(own)).count()
+    parsed
+        .iter()
+        .filter(|own| matches!(own, Parsed::Positional(_, _)))
+        .count()
 }
 
 // Gives a positional the key of the declared one that it belongs to: that of the word at this

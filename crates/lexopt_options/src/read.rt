@@ -37,6 +37,7 @@ use crate::options::Options;
 use crate::parsed::{Asked, ByKey, Parsed};
 use crate::places::{first_key, give_keys};
 use crate::refused::{Line, Refused};
+use crate::rest::{RestStart, is_separated};
 use crate::taken::invalid_argument;
 use lexopt_base::parser::{Found, Parser};
 use lexopt_base::refusal::Refusal;
@@ -69,7 +70,7 @@ pub(crate) enum Outcome {
 pub(crate) enum Ended<'a> {
     // The line was read to its end.
     End,
-    // This is one positional more than the limit.
+    // This is one positional more than the declaration allows, or has the separator before it.
     Positional(OsString),
     // The option that was read last asks for this.
     Asked(Asked<'a>),
@@ -385,12 +386,12 @@ fn ask<'a, F, V, P, M, S>(
     asked: Asked<'a>,
 ) -> Result<Ended<'a>, AllocError>
     ensures { let d = declaration_of options.now in IfOk result (λ ended.
-        (words : List (List ℕ)) (limit : Option ℕ) (u : UnreadLine) (count : ℕ) (seen : List ℕ)
+        (words : List (List ℕ)) (begins : RestStart) (u : UnreadLine) (count : ℕ) (seen : List ℕ)
         (parsed : List (Parsed F V P M S)) (s : legal.Parsed)
-        → HasRead options.now limit (start d.short_equals words) u count seen parsed
+        → HasRead options.now begins (start d.short_equals words) u count seen parsed
         → ReadsParsed d count u s parser.old → counts s ≡ 0 → refused_value d.options s ≡ None
         → asked_by d.options s ≡ Some (asked_view asked.entry)
-        → HasEnded options.now words limit count seen parsed ended parser.new) }
+        → HasEnded options.now words begins count seen parsed ended parser.new) }
 {
     match parser.advance() {
         Ok(_) => Ok(Ended::Asked(asked)),
@@ -404,7 +405,8 @@ fn ask<'a, F, V, P, M, S>(
     }
 }
 
-// Reads a line by keys, up to one positional more than `limit`, and puts what is read into `read`.
+// Reads a line by keys, up to one positional more than the declaration allows or the first one after
+// the separator, if a rest begins with that, and puts what is read into `read`.
 //
 // The caller owns `read`, so that this function has little to drop on each way out, and its proof
 // stays cheap. It, `refused_for` and `line_of` are always inlined for speed: a call would hand over
@@ -414,18 +416,18 @@ pub(crate) fn read_keys<'a, F: Copy, V: Copy, P: Copy, M: Copy, S: Copy>(
     alloc: Global,
     parser: &mut Parser,
     options: &Options<'a, F, V, P, M, S>,
-    limit: Option<usize>,
+    begins: RestStart,
     read: &mut Read<F, V, P, M, S>,
 ) -> Result<Ended<'a>, AllocError>
     requires line { IsLine parser.old }
-    requires within { (n : ℕ) → IsWithin n limit
-        → IsWithin n (most (declaration_of options.now).positionals) }
+    requires before { parser.old.ended ≡ false }
     requires nothing { IsNothing read.old }
     ensures { IfOk result (λ ended. (words : List (List ℕ))
         → parser.old ≡ start (declaration_of options.now).short_equals words
-        → HasEnded options.now words limit read.new.count read.new.seen.items
+        → HasEnded options.now words begins read.new.count read.new.seen.items
         read.new.parsed.items ended parser.new) }
 {
+    let limit = options.most();
     let declared = options.options();
     loop {
         match read_next(parser, options)? {
@@ -441,6 +443,9 @@ pub(crate) fn read_keys<'a, F: Copy, V: Copy, P: Copy, M: Copy, S: Copy>(
                 }
             }
             Outcome::Positional(word) => {
+                if is_separated(begins, parser) {
+                    return Ok(Ended::Positional(word));
+                }
                 if is_full(limit, read.count) {
                     return Ok(Ended::Positional(word));
                 }
@@ -492,7 +497,7 @@ pub(crate) fn line_of<'a, F: Drop, V: Drop, P: Copy, M: Drop, S: Drop>(
     ended: Ended<'a>,
 ) -> Result<Line<'a, F, V, P, M, S>, AllocError>
     ensures { (words : List (List ℕ)) (v : UnreadLine)
-        → HasEnded options.now words (most (declaration_of options.now).positionals)
+        → HasEnded options.now words RestStart.Surplus
         read.count read.seen.items read.parsed.items ended.entry v
         → IfOk result (λ line. IsLineRead options.now words line) }
 {
@@ -529,7 +534,7 @@ fn read_line<'a, F: Copy, V: Copy, P: Copy, M: Copy, S: Copy>(
     let room = words.len().min(FIRST_ROOM);
     let mut parser = options.parser_of(words);
     let mut read = nothing_read(alloc, room)?;
-    let ended = read_keys(alloc, &mut parser, options, options.most(), &mut read)?;
+    let ended = read_keys(alloc, &mut parser, options, RestStart::Surplus, &mut read)?;
     line_of(options, read, ended)
 }
 

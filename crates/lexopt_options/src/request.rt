@@ -91,14 +91,8 @@ impl Request {
         ensures { IsRequest (option_map (λ v. v.now) value.entry) words.items result }
     {
         match value {
-            Some(value) => {
-                if value.is_empty() {
-                    Request::Line(words)
-                } else {
-                    asked_by(alloc, value, words)
-                }
-            }
-            None => Request::Line(words),
+            Some(value) if !value.is_empty() => asked_by(alloc, value, words),
+            _ => Request::Line(words),
         }
     }
 

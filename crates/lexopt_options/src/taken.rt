@@ -3,19 +3,17 @@ ghost use Rattle.std.specs.Prelude.{◌≡◌, ◌≤◌, ◌↔◌, ◌+◌, �
 ghost use Rattle.std.specs.Prelude.{is_none, map, true};
 ghost use Rattle.std.specs.List.{list_any};
 ghost use Rattle.std.specs.Option.{MatchOption};
-ghost use Rattle.lexopt_options_spec.specs.Completion.{AreOwners, CanOwn};
+ghost use Rattle.lexopt_options_spec.specs.Completion.{AreOwners, CanBeTaken, CanOwn};
 ghost use Rattle.lexopt_options_spec.specs.Legal.{IsWithin, most};
 ghost use Rattle.lexopt_options_spec.specs.Places.{AreTaken, IsNotTaken, least, owners};
-ghost use Rattle.lexopt_options_spec.specs.Places.{refused_word, takes_at};
-ghost use Rattle.lexopt_options_spec.specs.Places.{greedy};
-ghost use Rattle.lexopt_options_spec.specs.Completion.{CanBeTaken};
+ghost use Rattle.lexopt_options_spec.specs.Places.{greedy, refused_word, takes_at};
 ghost use Rattle.lexopt_declaration.specs.Models.{positional_view};
 ghost use Rattle.lexopt_options_spec.specs.Stops as stops;
 ghost use Rattle.lexopt_options.specs.Declarations.{declaration_of};
 ghost use Rattle.lexopt_options.specs.Keys.{parsed_words};
 ghost use Rattle.lexopt_options.specs.Mistakes.{IsMistake};
 ghost use Rattle.lexopt_options.specs.Taken as taken;
-ghost use Rattle.lexopt_options.specs.Taken.{IsInvalid, IsRefusal, IsRefusalAt, Owns};
+ghost use Rattle.lexopt_options.specs.Taken.{CanSpare, Fits, IsInvalid, IsRefusal, IsRefusalAt};
 
 use crate::listed::{accepts, is_listed};
 use crate::mistake::Mistake;
@@ -137,6 +135,7 @@ pub fn invalid_argument<'a, F, V, P, M, S>(
 // ---- where more words can come
 
 // Whether the positional at this index accepts a word.
+#[tactic(auto, using(crate::proofs::Accepted::at_place))]
 fn takes_at<P>(positionals: &[Positional<'_, P>], index: usize, word: &OsString) -> bool
     ensures { result ≡ takes_at (map positional_view positionals.now) index word.now }
 {
@@ -168,6 +167,7 @@ fn are_taken<P>(positionals: &[Positional<'_, P>], words: &[OsString], spare: us
 
 // The most words beyond the required ones that a line can have, but at most `count`: more of them
 // do not change what the first `count` words can belong to.
+#[tactic(auto, using(lexopt_options_spec::proofs::Shares::least_fits))]
 fn most_spare<P>(positionals: &[Positional<'_, P>], count: usize) -> usize
     ensures { (spare : ℕ) → (spare ≤ result) ↔ ((spare ≤ count)
         × IsWithin (least (map positional_view positionals.now) + spare)
@@ -179,49 +179,59 @@ fn most_spare<P>(positionals: &[Positional<'_, P>], count: usize) -> usize
     }
 }
 
-/// Whether each of these words can belong to a positional that accepts it, with some more words
-/// after them.
-pub fn can_be_taken<P>(positionals: &[Positional<'_, P>], words: &[OsString]) -> bool
-    ensures { IsTrue result ↔ CanBeTaken (map positional_view positionals.now) words.now }
+// Whether each of these words belongs to a positional that accepts it, and a word after them to the
+// one at the index `next`, if there is one, where there are `spare` more words than are required.
+fn fit<P>(
+    positionals: &[Positional<'_, P>],
+    words: &[OsString],
+    next: Option<usize>,
+    spare: usize,
+) -> bool
+    ensures { IsTrue result
+        ↔ Fits (map positional_view positionals.now) words.now next spare }
 {
-    let count = words.len();
+    if let Some(index) = next {
+        if place_of(positionals, spare, words.len()) != Some(index) {
+            return false;
+        }
+    }
+    are_taken(positionals, words, spare)
+}
+
+// Whether these words fit in a line of at least `count` words.
+fn can_fit<P>(
+    positionals: &[Positional<'_, P>],
+    words: &[OsString],
+    next: Option<usize>,
+    count: usize,
+) -> bool
+    ensures { let ps = map positional_view positionals.now in IsTrue result
+        ↔ ((spare : ℕ) × CanSpare ps count spare × Fits ps words.now next spare) }
+{
     for spare in spare_of(positionals, count)..=most_spare(positionals, count) {
-        if are_taken(positionals, words, spare) {
+        if fit(positionals, words, next, spare) {
             return true;
         }
     }
     false
 }
 
-// Whether a word after these words belongs to the positional at this index, and each of these words
-// to one that accepts it, where there are `spare` more words than are required.
-fn owns<P>(
-    positionals: &[Positional<'_, P>],
-    words: &[OsString],
-    index: usize,
-    spare: usize,
-) -> bool
-    ensures { IsTrue result
-        ↔ Owns (map positional_view positionals.now) words.now index spare }
+/// Whether each of these words can belong to a positional that accepts it, with some more words
+/// after them.
+#[tactic(auto, using(crate::proofs::TakenWords::fits))]
+pub fn can_be_taken<P>(positionals: &[Positional<'_, P>], words: &[OsString]) -> bool
+    ensures { IsTrue result ↔ CanBeTaken (map positional_view positionals.now) words.now }
 {
-    if place_of(positionals, spare, words.len()) == Some(index) {
-        return are_taken(positionals, words, spare);
-    }
-    false
+    can_fit(positionals, words, None, words.len())
 }
 
 // Whether a word after these words can belong to the positional at this index, and each of these
 // words to one that accepts it, with some more words at the end or none.
+#[tactic(auto, using(crate::proofs::TakenWords::fits))]
 fn can_own<P>(positionals: &[Positional<'_, P>], words: &[OsString], index: usize) -> bool
     ensures { IsTrue result ↔ CanOwn (map positional_view positionals.now) words.now index }
 {
-    let count = words.len() + 1;
-    for spare in spare_of(positionals, count)..=most_spare(positionals, count) {
-        if owns(positionals, words, index, spare) {
-            return true;
-        }
-    }
-    false
+    can_fit(positionals, words, Some(index), words.len() + 1)
 }
 
 /// Returns the indices of the positionals that a word after these words can belong to, where each of

@@ -1,14 +1,16 @@
 //! Mistakes that a program itself finds in what was read, and what is printed about them.
-ghost use Rattle.std.specs.Prelude.{◌≡◌, position};
+ghost use Rattle.std.specs.Prelude.{◌≡◌};
 ghost use Rattle.std.specs.Fmt.{WritesOnOk};
 ghost use Rattle.std.specs.Process.{exit_status};
+ghost use Rattle.lexopt_declaration.specs.Lookups.{names_at};
+ghost use Rattle.lexopt_options.specs.Declarations.{options_of};
 ghost use Rattle.lexopt_options.specs.Usage as usage;
-ghost use Rattle.lexopt_options.specs.Usage.{for_option, invalid_message, named, value_message};
-ghost use Rattle.lexopt_options.specs.Usage.{what_message, why_message};
+ghost use Rattle.lexopt_options.specs.Usage.{ConvertsFor, for_option, invalid_message, named};
+ghost use Rattle.lexopt_options.specs.Usage.{value_message, what_message, why_message};
 
 use crate::options::Options;
 use crate::refused::USAGE_ERROR;
-use lexopt_declaration::declaration::{Declared, Kind, Names};
+use lexopt_declaration::declaration::{Kind, Names};
 use lexopt_declaration::lookup::names_of;
 use lexopt_declaration::message::write_help;
 use lexopt_words::error::Error;
@@ -339,40 +341,18 @@ fn is_values<F, V, M, S: PartialEq>(kind: &Kind<'_, F, V, M, S>, key: &S) -> boo
     }
 }
 
-// The index of the first option of one value with this key.
-fn place_of_value<F, V: PartialEq, M, S>(
-    options: &[Declared<'_, F, V, M, S>],
-    key: &V,
-) -> Option<usize>
-    ensures { result ≡ position (λ o. usage.is_value V.eq key.now o.kind) options.now }
+// Converts a value of the option at this index, if there is one.
+fn parse_for<'a, F, V, P, M, S, T: FromStr>(
+    options: &Options<'a, F, V, P, M, S>,
+    place: Option<usize>,
+    word: &OsString,
+) -> Result<T, UsageError<'a>>
+where
+    T::Err: Into<anyhow::Error>,
+    ensures { ConvertsFor (names_at (options_of options.now) place) T.from_str_gives
+        T.Err.converts word.now result }
 {
-    options
-        .iter()
-        .position(|option| is_value(&option.kind, key))
-}
-
-// The index of the first option with this key whose value may be left out.
-fn place_of_maybe<F, V, M: PartialEq, S>(
-    options: &[Declared<'_, F, V, M, S>],
-    key: &M,
-) -> Option<usize>
-    ensures { result ≡ position (λ o. usage.is_maybe M.eq key.now o.kind) options.now }
-{
-    options
-        .iter()
-        .position(|option| is_maybe(&option.kind, key))
-}
-
-// The index of the first option of several values with this key.
-fn place_of_values<F, V, M, S: PartialEq>(
-    options: &[Declared<'_, F, V, M, S>],
-    key: &S,
-) -> Option<usize>
-    ensures { result ≡ position (λ o. usage.is_values S.eq key.now o.kind) options.now }
-{
-    options
-        .iter()
-        .position(|option| is_values(&option.kind, key))
+    name_error(names_of(options.options(), place), word.parse())
 }
 
 impl<'a, F, V: Copy + PartialEq, P, M, S> Options<'a, F, V, P, M, S> {
@@ -421,9 +401,11 @@ impl<'a, F, V: Copy + PartialEq, P, M, S> Options<'a, F, V, P, M, S> {
         ensures { ConvertsFor (value_names V.eq key (options_of self.now)) T.from_str_gives
             T.Err.converts word.now result }
     {
-        let options = self.options();
-        let option = names_of(options, place_of_value(options, &key));
-        name_error(option, word.parse())
+        let place = self
+            .options()
+            .iter()
+            .position(|option| is_value(&option.kind, &key));
+        parse_for(self, place, word)
     }
 }
 
@@ -432,38 +414,18 @@ impl<'a, F, V, P, M: Copy + PartialEq, S> Options<'a, F, V, P, M, S> {
     ghost use Rattle.lexopt_options.specs.Usage.{ConvertsFor, maybe_names};
 
     /// Converts the value of an option whose value may be left out, as [`Options::parse_value`]
-    /// does.
-    ///
-    /// # Errors
-    ///
-    /// Returns the errors of [`Options::parse_value`], for the first such option with this key.
-    ///
-    /// # Examples
-    ///
-    /// ```rust
-    /// use std::convert::Infallible;
-    ///
-    /// #[derive(Clone, Copy, PartialEq)]
-    /// enum Maybe {
-    ///     Level,
-    /// }
-    ///
-    /// fn level_of<'a>(
-    ///     options: &Options<'a, Flag, Infallible, Infallible, Maybe>,
-    ///     word: &OsString,
-    /// ) -> Result<u32, UsageError<'a>> {
-    ///     options.parse_maybe(Maybe::Level, word)
-    /// }
-    /// ```
+    /// does. It returns the errors of that call, for the first such option with this key.
     pub fn parse_maybe<T: FromStr>(&self, key: M, word: &OsString) -> Result<T, UsageError<'a>>
     where
         T::Err: Into<anyhow::Error>,
         ensures { ConvertsFor (maybe_names M.eq key (options_of self.now)) T.from_str_gives
             T.Err.converts word.now result }
     {
-        let options = self.options();
-        let option = names_of(options, place_of_maybe(options, &key));
-        name_error(option, word.parse())
+        let place = self
+            .options()
+            .iter()
+            .position(|option| is_maybe(&option.kind, &key));
+        parse_for(self, place, word)
     }
 }
 
@@ -472,43 +434,18 @@ impl<'a, F, V, P, M, S: Copy + PartialEq> Options<'a, F, V, P, M, S> {
     ghost use Rattle.lexopt_options.specs.Usage.{ConvertsFor, values_names};
 
     /// Converts one of the values of an option of several values, as [`Options::parse_value`] does.
-    ///
-    /// # Errors
-    ///
-    /// Returns the errors of [`Options::parse_value`], for the first such option with this key.
-    ///
-    /// # Examples
-    ///
-    /// ```rust
-    /// use std::alloc::Global;
-    /// use std::convert::Infallible;
-    ///
-    /// #[derive(Clone, Copy, PartialEq)]
-    /// enum Values {
-    ///     Size,
-    /// }
-    ///
-    /// fn sizes_of<'a>(
-    ///     alloc: Global,
-    ///     options: &Options<'a, Flag, Infallible, Infallible, Infallible, Values>,
-    ///     words: &[OsString],
-    /// ) -> Result<Vec<u64>, UsageError<'a>> {
-    ///     let mut sizes = Vec::new(alloc);
-    ///     for word in words {
-    ///         sizes.push(options.parse_values(Values::Size, word)?)?;
-    ///     }
-    ///     Ok(sizes)
-    /// }
-    /// ```
+    /// It returns the errors of that call, for the first such option with this key.
     pub fn parse_values<T: FromStr>(&self, key: S, word: &OsString) -> Result<T, UsageError<'a>>
     where
         T::Err: Into<anyhow::Error>,
         ensures { ConvertsFor (values_names S.eq key (options_of self.now)) T.from_str_gives
             T.Err.converts word.now result }
     {
-        let options = self.options();
-        let option = names_of(options, place_of_values(options, &key));
-        name_error(option, word.parse())
+        let place = self
+            .options()
+            .iter()
+            .position(|option| is_values(&option.kind, &key));
+        parse_for(self, place, word)
     }
 }
 

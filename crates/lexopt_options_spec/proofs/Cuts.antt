@@ -21,6 +21,22 @@ pub record Cut (u : UnreadLine) (tail : List (List ℕ)) (P : UnreadLine → Typ
   pub words_are : u.words ≡ before ++ tail
   pub holds : P (with_words before u)
 
+same_words : {u v : UnreadLine} → u ≡ v → u.words ≡ v.words
+same_words is = ap (λ (x : UnreadLine). x.words) is
+
+-- no word was read
+none_read : {u : UnreadLine} {tail words : List (List ℕ)} {P : UnreadLine → Type 0} (left : List (List ℕ)) → words ≡ u.words → words ≡ left ++ tail → P (with_words left u) → Cut u tail P
+none_read left same is holds = record { before = left; words_are = sym same ∙ is; holds = holds }
+
+-- this word was read
+one_read : {u : UnreadLine} {tail words : List (List ℕ)} {P : UnreadLine → Type 0} (left ws : List (List ℕ)) (w : List ℕ) → u.words ≡ w ∷ ws → words ≡ ws → words ≡ left ++ tail → P (with_words (w ∷ left) u)
+    → Cut u tail P
+one_read left ws w some same is holds = record { before = w ∷ left; words_are = some ∙ ap (λ l. w ∷ l) (sym same ∙ is); holds = holds }
+
+-- the same words, and something else that holds
+also : {u : UnreadLine} {tail : List (List ℕ)} {P Q : UnreadLine → Type 0} (cut : Cut u tail P) → Q (with_words cut.before u) → Cut u tail Q
+also cut holds = record { before = cut.before; words_are = cut.words_are; holds = holds }
+
 empty_front : (left tail : List (List ℕ)) → left ++ tail ≡ [] → left ≡ []
 empty_front [] tail is = refl
 empty_front (w ∷ left) tail is = absurd (let e : w ∷ (left ++ tail) ≡ [] = is in cc)
@@ -28,104 +44,54 @@ empty_front (w ∷ left) tail is = absurd (let e : w ∷ (left ++ tail) ≡ [] =
 -- ---- steps
 
 short_cut : (bytes : List ℕ) (u v : UnreadLine) (r : Reply) (left tail : List (List ℕ)) → v.words ≡ left ++ tail → ReadsShort bytes u r v → Cut u tail (λ x. ReadsShort bytes x r (with_words left v))
-short_cut bytes u v r left tail is reads = record {
-  before = left;
-  words_are = sym (ap (λ (x : UnreadLine). x.words) reads.after_is) ∙ is;
-  holds = record { some = reads.some; reply_is = reads.reply_is; after_is = ap (with_words left) reads.after_is };
-}
+short_cut bytes u v r left tail is reads =
+    none_read left (same_words reads.after_is) is (record { some = reads.some; reply_is = reads.reply_is; after_is = ap (with_words left) reads.after_is })
 
 positional_cut : (u v : UnreadLine) (r : Reply) (left tail : List (List ℕ)) → v.words ≡ left ++ tail → ReadsPositional u r v → Cut u tail (λ x. ReadsPositional x r (with_words left v))
-positional_cut u v r left tail is (no_word_left none r_is after) = record {
-  before = left;
-  words_are = sym (ap (λ (x : UnreadLine). x.words) after) ∙ is;
-  holds = no_word_left (empty_front left tail (sym is ∙ ap (λ (x : UnreadLine). x.words) after ∙ none)) r_is (ap (with_words left) after);
-}
-positional_cut u v r left tail is (word_left w ws some r_is after) = record {
-  before = w ∷ left;
-  words_are = some ∙ ap (λ l. w ∷ l) (sym (ap (λ (x : UnreadLine). x.words) after) ∙ is);
-  holds = word_left w left refl r_is (ap (with_words left) after);
-}
+positional_cut u v r left tail is (no_word_left none r_is after) =
+    none_read left (same_words after) is (no_word_left (empty_front left tail (sym is ∙ same_words after ∙ none)) r_is (ap (with_words left) after))
+positional_cut u v r left tail is (word_left w ws some r_is after) =
+    one_read left ws w some (same_words after) is (word_left w left refl r_is (ap (with_words left) after))
 
 word_cut : (u v : UnreadLine) (r : Reply) (left tail : List (List ℕ)) → v.words ≡ left ++ tail → ReadsWord u r v → Cut u tail (λ x. ReadsWord x r (with_words left v))
-word_cut u v r left tail is (no_word none r_is after) = record {
-  before = left;
-  words_are = sym (ap (λ (x : UnreadLine). x.words) after) ∙ is;
-  holds = no_word (empty_front left tail (sym is ∙ ap (λ (x : UnreadLine). x.words) after ∙ none)) r_is (ap (with_words left) after);
-}
+word_cut u v r left tail is (no_word none r_is after) =
+    none_read left (same_words after) is (no_word (empty_front left tail (sym is ∙ same_words after ∙ none)) r_is (ap (with_words left) after))
 word_cut u v r left tail is (reads_separator ws some reads) =
     let cut = positional_cut (record u { words = ws; ended = true }) v r left tail is reads in
-    record {
-      before = (dash ∷ dash ∷ []) ∷ cut.before;
-      words_are = some ∙ ap (λ l. (dash ∷ dash ∷ []) ∷ l) cut.words_are;
-      holds = reads_separator cut.before refl cut.holds;
-    }
-word_cut u v r left tail is (reads_long text name after ws some other long r_is after_is) = record {
-  before = (dash ∷ dash ∷ text) ∷ left;
-  words_are = some ∙ ap (λ l. (dash ∷ dash ∷ text) ∷ l) (sym (ap (λ (x : UnreadLine). x.words) after_is) ∙ is);
-  holds = reads_long text name after left refl other long r_is (ap (with_words left) after_is);
-}
+    one_read cut.before ws (dash ∷ dash ∷ []) some refl cut.words_are (reads_separator cut.before refl cut.holds)
+word_cut u v r left tail is (reads_long text name after ws some other long r_is after_is) =
+    one_read left ws (dash ∷ dash ∷ text) some (same_words after_is) is (reads_long text name after left refl other long r_is (ap (with_words left) after_is))
 word_cut u v r left tail is (reads_cluster bytes ws some other reads) =
     let cut = short_cut bytes (record u { words = ws }) v r left tail is reads in
-    record {
-      before = (dash ∷ bytes) ∷ cut.before;
-      words_are = some ∙ ap (λ l. (dash ∷ bytes) ∷ l) cut.words_are;
-      holds = reads_cluster bytes cut.before refl other cut.holds;
-    }
-word_cut u v r left tail is (reads_positional w ws some plain r_is after) = record {
-  before = w ∷ left;
-  words_are = some ∙ ap (λ l. w ∷ l) (sym (ap (λ (x : UnreadLine). x.words) after) ∙ is);
-  holds = reads_positional w left refl plain r_is (ap (with_words left) after);
-}
+    one_read cut.before ws (dash ∷ bytes) some refl cut.words_are (reads_cluster bytes cut.before refl other cut.holds)
+word_cut u v r left tail is (reads_positional w ws some plain r_is after) =
+    one_read left ws w some (same_words after) is (reads_positional w left refl plain r_is (ap (with_words left) after))
 
 pub step_cut : (u v : UnreadLine) (r : Reply) (left tail : List (List ℕ)) → v.words ≡ left ++ tail → NextStep u r v → Cut u tail (λ x. NextStep x r (with_words left v))
-step_cut u v r left tail is (joined_value value o joins spelled r_is after) = record {
-  before = left;
-  words_are = sym (ap (λ (x : UnreadLine). x.words) after) ∙ is;
-  holds = joined_value value o joins spelled r_is (ap (with_words left) after);
-}
-step_cut u v r left tail is (equals_value value o joins on spelled r_is after) = record {
-  before = left;
-  words_are = sym (ap (λ (x : UnreadLine). x.words) after) ∙ is;
-  holds = equals_value value o joins on spelled r_is (ap (with_words left) after);
-}
+step_cut u v r left tail is (joined_value value o joins spelled r_is after) =
+    none_read left (same_words after) is (joined_value value o joins spelled r_is (ap (with_words left) after))
+step_cut u v r left tail is (equals_value value o joins on spelled r_is after) =
+    none_read left (same_words after) is (equals_value value o joins on spelled r_is (ap (with_words left) after))
 step_cut u v r left tail is (next_in_cluster bytes continues not reads) =
-    let cut = short_cut bytes u v r left tail is reads in
-    record { before = cut.before; words_are = cut.words_are; holds = next_in_cluster bytes continues not cut.holds }
+    let cut = short_cut bytes u v r left tail is reads in also cut (next_in_cluster bytes continues not cut.holds)
 step_cut u v r left tail is (after_separator none ended reads) =
-    let cut = positional_cut u v r left tail is reads in
-    record { before = cut.before; words_are = cut.words_are; holds = after_separator none ended cut.holds }
+    let cut = positional_cut u v r left tail is reads in also cut (after_separator none ended cut.holds)
 step_cut u v r left tail is (next_word none not reads) =
-    let cut = word_cut u v r left tail is reads in
-    record { before = cut.before; words_are = cut.words_are; holds = next_word none not cut.holds }
+    let cut = word_cut u v r left tail is reads in also cut (next_word none not cut.holds)
 
 value_cut : (u v : UnreadLine) (r : Reply) (left tail : List (List ℕ)) → v.words ≡ left ++ tail → ValueStep u r v → Cut u tail (λ x. ValueStep x r (with_words left v))
-value_cut u v r left tail is (pending_value value by_equals has r_is after) = record {
-  before = left;
-  words_are = sym (ap (λ (x : UnreadLine). x.words) after) ∙ is;
-  holds = pending_value value by_equals has r_is (ap (with_words left) after);
-}
-value_cut u v r left tail is (takes_word w ws none some r_is after) = record {
-  before = w ∷ left;
-  words_are = some ∙ ap (λ l. w ∷ l) (sym (ap (λ (x : UnreadLine). x.words) after) ∙ is);
-  holds = takes_word w left none refl r_is (ap (with_words left) after);
-}
-value_cut u v r left tail is (nothing_to_take none empty r_is after) = record {
-  before = left;
-  words_are = sym (ap (λ (x : UnreadLine). x.words) after) ∙ is;
-  holds = nothing_to_take none (empty_front left tail (sym is ∙ ap (λ (x : UnreadLine). x.words) after ∙ empty)) r_is (ap (with_words left) after);
-}
+value_cut u v r left tail is (pending_value value by_equals has r_is after) =
+    none_read left (same_words after) is (pending_value value by_equals has r_is (ap (with_words left) after))
+value_cut u v r left tail is (takes_word w ws none some r_is after) =
+    one_read left ws w some (same_words after) is (takes_word w left none refl r_is (ap (with_words left) after))
+value_cut u v r left tail is (nothing_to_take none empty r_is after) =
+    none_read left (same_words after) is (nothing_to_take none (empty_front left tail (sym is ∙ same_words after ∙ empty)) r_is (ap (with_words left) after))
 
 optional_cut : (u v : UnreadLine) (r : Reply) (left tail : List (List ℕ)) → v.words ≡ left ++ tail → OptionalStep u r v → Cut u tail (λ x. OptionalStep x r (with_words left v))
-optional_cut u v r left tail is (optional_pending value by_equals has r_is after) = record {
-  before = left;
-  words_are = sym (ap (λ (x : UnreadLine). x.words) after) ∙ is;
-  holds = optional_pending value by_equals has r_is (ap (with_words left) after);
-}
-optional_cut u v r left tail is (optional_none none r_is after) = record {
-  before = left;
-  words_are = sym (ap (λ (x : UnreadLine). x.words) after) ∙ is;
-  holds = optional_none none r_is (ap (with_words left) after);
-}
+optional_cut u v r left tail is (optional_pending value by_equals has r_is after) =
+    none_read left (same_words after) is (optional_pending value by_equals has r_is (ap (with_words left) after))
+optional_cut u v r left tail is (optional_none none r_is after) =
+    none_read left (same_words after) is (optional_none none r_is (ap (with_words left) after))
 
 -- ---- several values
 
@@ -171,30 +137,24 @@ words_given u v (w ∷ front) left has is some after =
 pub came_is : (came other : List (List ℕ)) → steps.items came ≡ steps.items other → other ≡ came
 came_is came other is = cc
 
+-- these words were read
+front_read : (u v : UnreadLine) (came front others left tail : List (List ℕ)) → IsPlainFront u.ended u.words front others → others ≡ left ++ tail
+    → (IsPlainFront u.ended (front ++ left) front left → AllGiven (with_words (front ++ left) u) came (with_words left v)) → Cut u tail (λ x. AllGiven x came (with_words left v))
+front_read u v came front others left tail plain left_is given =
+    let cut = subst (IsPlainFront u.ended u.words front) left_is plain in
+    record { before = front ++ left; words_are = cut.words_are ∙ sym (append_assoc front left tail); holds = given (front_cut u.ended u.words front left tail cut) }
+
 full_cut : (u v : UnreadLine) (came left tail : List (List ℕ)) → v.words ≡ left ++ tail → FullStep u (steps.items came) v → Cut u tail (λ x. AllGiven x came (with_words left v))
-full_cut u v came left tail is (joined_one value has r_is after) = record {
-  before = left;
-  words_are = sym (ap (λ (x : UnreadLine). x.words) after) ∙ is;
-  holds = subst (λ l. AllGiven (with_words left u) l (with_words left v)) (came_is came (value ∷ []) r_is) (joined_given (with_words left u) (with_words left v) value has (ap (with_words left) after));
-}
+full_cut u v came left tail is (joined_one value has r_is after) =
+    none_read left (same_words after) is (subst (λ l. AllGiven (with_words left u) l (with_words left v)) (came_is came (value ∷ []) r_is) (joined_given (with_words left u) (with_words left v) value has (ap (with_words left) after)))
 full_cut u v came left tail is (attached_first value front others has plain r_is after) =
-    let left_is : others ≡ left ++ tail = sym (ap (λ (x : UnreadLine). x.words) after) ∙ is in
-    let cut = subst (IsPlainFront u.ended u.words front) left_is plain in
-    record {
-      before = front ++ left;
-      words_are = cut.words_are ∙ sym (append_assoc front left tail);
-      holds = subst (λ l. AllGiven (with_words (front ++ left) u) l (with_words left v)) (came_is came (value ∷ front) r_is)
-          (attached_given (with_words (front ++ left) u) (with_words left v) value front left has (front_cut u.ended u.words front left tail cut) (ap (with_words left) after));
-    }
+    front_read u v came front others left tail plain (sym (same_words after) ∙ is)
+    (λ cut. subst (λ l. AllGiven (with_words (front ++ left) u) l (with_words left v)) (came_is came (value ∷ front) r_is)
+    (attached_given (with_words (front ++ left) u) (with_words left v) value front left has cut (ap (with_words left) after)))
 full_cut u v came left tail is (words_alone front others has plain some r_is after) =
-    let left_is : others ≡ left ++ tail = sym (ap (λ (x : UnreadLine). x.words) after) ∙ is in
-    let cut = subst (IsPlainFront u.ended u.words front) left_is plain in
-    record {
-      before = front ++ left;
-      words_are = cut.words_are ∙ sym (append_assoc front left tail);
-      holds = subst (λ l. AllGiven (with_words (front ++ left) u) l (with_words left v)) (came_is came front r_is)
-          (words_given (with_words (front ++ left) u) (with_words left v) front left has (front_cut u.ended u.words front left tail cut) some (ap (with_words left) after));
-    }
+    front_read u v came front others left tail plain (sym (same_words after) ∙ is)
+    (λ cut. subst (λ l. AllGiven (with_words (front ++ left) u) l (with_words left v)) (came_is came front r_is)
+    (words_given (with_words (front ++ left) u) (with_words left v) front left has cut some (ap (with_words left) after)))
 full_cut u v came left tail is (nothing_given has none r_is after) = absurd (let e : steps.items came ≡ steps.missing _ = r_is in cc)
 
 -- ---- items
@@ -207,35 +167,26 @@ enough P u r v (inr refused) other = absurd (other refused.reply_is)
 first_cut : (t : Table) (u w : UnreadLine) (item : Item) (left tail : List (List ℕ)) → w.words ≡ left ++ tail → ReadsFirst t u item w → Cut u tail (λ x. ReadsFirst t x item (with_words left w))
 first_cut t u w item left tail is (first_positional word v step) =
     let cut = step_cut u w (steps.positional word) left tail is (enough NextStep u (steps.positional word) w step (λ none. cc)) in
-    record { before = cut.before; words_are = cut.words_are; holds = first_positional word (with_words left w) (inl cut.holds) }
+    also cut (first_positional word (with_words left w) (inl cut.holds))
 first_cut t u w item left tail is (first_flag name v none step) =
-    let cut = step_cut u w (option_reply name) left tail is (option_given u w name step) in
-    record { before = cut.before; words_are = cut.words_are; holds = first_flag name (with_words left w) none (inl cut.holds) }
+    let cut = step_cut u w (option_reply name) left tail is (option_given u w name step) in also cut (first_flag name (with_words left w) none (inl cut.holds))
 first_cut t u w item left tail is (first_one name word v x k step takes) =
     let value = value_cut v w (steps.taken word) left tail is (enough ValueStep v (steps.taken word) w takes (λ none. cc)) in
     let cut = step_cut u v (option_reply name) value.before tail value.words_are (option_given u v name step) in
-    record { before = cut.before; words_are = cut.words_are; holds = first_one name word (with_words value.before v) (with_words left w) k (inl cut.holds) (inl value.holds) }
+    also cut (first_one name word (with_words value.before v) (with_words left w) k (inl cut.holds) (inl value.holds))
 first_cut t u w item left tail is (first_optional name word v x k step takes) =
     let value = optional_cut v w (steps.maybe word) left tail is (enough OptionalStep v (steps.maybe word) w takes (λ none. cc)) in
     let cut = step_cut u v (option_reply name) value.before tail value.words_are (option_given u v name step) in
-    record { before = cut.before; words_are = cut.words_are; holds = first_optional name word (with_words value.before v) (with_words left w) k (inl cut.holds) (inl value.holds) }
+    also cut (first_optional name word (with_words value.before v) (with_words left w) k (inl cut.holds) (inl value.holds))
 first_cut t u w item left tail is (first_several name n words v x k step few takes) =
     let all = full_step n v w (steps.items words) few (enough (ValuesStep n) v (steps.items words) w takes (λ none. cc)) in
     let value = full_cut v w words left tail is all in
     let cut = step_cut u v (option_reply name) value.before tail value.words_are (option_given u v name step) in
-    record {
-      before = cut.before;
-      words_are = cut.words_are;
-      holds = first_several name value.holds.asked words (with_words value.before v) (with_words left w) k (inl cut.holds) value.holds.few (inl value.holds.step);
-    }
+    also cut (first_several name value.holds.asked words (with_words value.before v) (with_words left w) k (inl cut.holds) value.holds.few (inl value.holds.step))
 
 pub items_cut : (t : Table) (u w : UnreadLine) (items : List Item) (left tail : List (List ℕ)) → w.words ≡ left ++ tail → ReadsItems t u items w → Cut u tail (λ x. ReadsItems t x items (with_words left w))
-items_cut t u w [] left tail is reads = record {
-  before = left;
-  words_are = sym (ap (λ (x : UnreadLine). x.words) reads) ∙ is;
-  holds = ap (with_words left) reads;
-}
+items_cut t u w [] left tail is reads =
+    none_read left (same_words reads) is (ap (with_words left) reads)
 items_cut t u w (item ∷ items) left tail is (v, first, others) =
     let later = items_cut t v w items left tail is others in
-    let cut = first_cut t u v item later.before tail later.words_are first in
-    record { before = cut.before; words_are = cut.words_are; holds = (with_words later.before v, cut.holds, later.holds) }
+    let cut = first_cut t u v item later.before tail later.words_are first in also cut ((with_words later.before v, cut.holds, later.holds))

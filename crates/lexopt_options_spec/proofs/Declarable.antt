@@ -1,10 +1,12 @@
 -- The fault that the prover computes is the first one that there is.
-use Rattle.std.proofs.Common.{◌≡◌, ◌≢◌, ℕ, zero, suc, ◌+◌, ◌/◌, ◌%◌, Bool, true, false, nat_eq, ◌==◌, ◌||◌, ◌&&◌, List, [], ◌∷◌, ◌++◌, take, Option, Some, None, is_none, option_map, cond, encode_utf8, encode_utf8_all, refl, sym, ap, subst, ◌∙◌, arith, ⊎_elim}
+use Rattle.std.proofs.Common.{◌≡◌, ◌≢◌, ℕ, zero, suc, ◌+◌, ◌/◌, ◌%◌, Bool, true, false, nat_eq, ◌==◌, ◌||◌, ◌&&◌, List, [], ◌∷◌, ◌++◌, take, Option, Some, None, is_none, cond, encode_utf8, encode_utf8_all, refl, sym, ap, subst, ◌∙◌, arith, ⊎_elim}
+use Rattle.std.proofs.Math.Bool.{or_comm, or-false}
 use Rattle.std.specs.Prelude.{slice_get}
 use Rattle.std.specs.List.{list_all, list_any, starts_with}
 use Rattle.std.specs.Str.{IsUtf8}
 use Rattle.std.proofs.lemmas.Bool.{true≢false, and_parts, or_parts, or_left, or_right, or_cases, false_from_ne_true, cond_both, ltb-true, eqb-true, eq-eqb, ne_eqb}
 use Rattle.std.proofs.lemmas.List.Folds.{list_any-append}
+use Rattle.std.proofs.lemmas.Option.{same_Some}
 use lib.Dec.{ltb}
 use lib.Utf8.{encode}
 use Rattle.lexopt_spec.specs.Pieces.{replacement, lossy_characters}
@@ -102,14 +104,8 @@ later_text o os text = λ name there. text name (or_right _ _ there)
 abbrev Same : List Declared → List Declared → Type 0
 Same others before = (f : Declared → Bool) → list_any f others ≡ list_any f before
 
-turned : (a b : Bool) → (a || b) ≡ (b || (a || false))
-turned true true = refl
-turned true false = refl
-turned false true = refl
-turned false false = refl
-
 one_more : (others before : List Declared) (o : Declared) → Same others before → Same (o ∷ others) (before ++ o ∷ [])
-one_more others before o same = λ f. ap (λ b. f o || b) (same f) ∙ turned (f o) (list_any f before) ∙ sym (list_any-append f before (o ∷ []))
+one_more others before o same = λ f. ap (λ b. f o || b) (same f) ∙ or_comm (f o) (list_any f before) ∙ ap (λ b. list_any f before || b) (sym (or-false (f o))) ∙ sym (list_any-append f before (o ∷ []))
 
 same_fault : (others before : List Declared) (o : Declared) → ((name : Name) → has_name name o ≡ true → IsText name) → Same others before → fault_beside others o ≡ fault before o
 same_fault others before o text same =
@@ -145,10 +141,6 @@ none_first n [] is = refl
 none_first n (None ∷ fs) is = none_first (suc n) fs is
 none_first n (Some r ∷ fs) is = absurd (true≢false (sym is))
 
-abbrev place_of : Option (ℕ × Reason) → ℕ
-place_of None = 0
-place_of (Some found) = found.0
-
 -- this is the reason at the place k, and no place before it has one
 abbrev IsFirstAt : List (Option Reason) → ℕ → Reason → Type 0
 IsFirstAt fs k r = (slice_get fs k ≡ Some (Some r)) × (list_all is_none (take k fs) ≡ true)
@@ -159,10 +151,9 @@ found_at n (None ∷ fs) i r is =
     let later = found_at (suc n) fs i r is in
     (suc later.0, omega (arith, later.1), later.2)
 found_at n (Some q ∷ fs) i r is =
-    let e : Some (n, q) ≡ Some (i, r) = is in
-    let same : n ≡ i = ap (λ (x : Option (ℕ × Reason)). place_of x) e in
-    let reason : Some q ≡ Some r = ap (λ (x : Option (ℕ × Reason)). option_map (λ (p : ℕ × Reason). p.1) x) e in
-    (zero, omega (arith, same), (ap (λ (x : Option Reason). Some x) reason, refl))
+    let both = same_Some (n, q) (i, r) is in
+    let same : n ≡ i = ap (λ (p : ℕ × Reason). p.0) both in
+    (zero, omega (arith, same), (ap (λ (p : ℕ × Reason). Some (Some p.1)) both, refl))
 
 -- ---- both ways
 

@@ -3,6 +3,7 @@ use Rattle.std.proofs.Common.{◌≡◌, ℕ, zero, suc, ◌+◌, ◌<◌, ◌�
 use Rattle.std.specs.List.{list_all, list_any}
 use Rattle.std.proofs.lemmas.List.Folds.{list_all_more}
 use Rattle.std.proofs.lemmas.List.{take_all}
+use Rattle.std.proofs.lemmas.List.Sums.{AllPass-from_list_all}
 use Rattle.lexopt_options_spec.specs.Declaration.{Declared, Reason, same_name, all_names, or_else, name_fault, names_fault, placeholder_fault, list_fault, shares_name, fault, faults, is_sound}
 
 pub faults_length : (before os : List Declared) → length (faults before os) ≡ length os
@@ -13,6 +14,11 @@ pub fault_at : (before os : List Declared) (i : ℕ) (d : Declared) → i < leng
 fault_at before [] i d within = absurd (omega arith)
 fault_at before (o ∷ os) zero d within = ap (λ l. fault l o) (sym (append-nil before))
 fault_at before (o ∷ os) (suc i) d within = fault_at (before ++ o ∷ []) os i d (omega arith) ∙ ap (λ l. fault l (get_or os i d)) (append_assoc before (o ∷ []) (take i os))
+
+-- an option of a sound list has no fault
+pub declared_at : (options : List Declared) (i : ℕ) (d : Declared) → is_sound options ≡ true → i < length options → is_none (fault (take i options) (get_or options i d)) ≡ true
+declared_at options i d sound within =
+    ap is_none (sym (fault_at [] options i d within)) ∙ AllPass-from_list_all is_none (faults [] options) sound i None (omega (arith, faults_length [] options, within))
 
 -- one more option that can be declared
 pub sound_more : (os : List Declared) (i : ℕ) (d : Declared) → i < length os → list_all is_none (take i (faults [] os)) ≡ true → fault (take i os) (get_or os i d) ≡ None

@@ -21,7 +21,7 @@ use Rattle.lexopt_line_spec.proofs.WholeLines.{said_shows, shown_read, shown_sai
 use Rattle.lexopt_options_spec.specs.Declaration.{Declaration, Declared, index_of, is_sound, table}
 use Rattle.lexopt_options_spec.specs.Legal.{Parsed, parsed_item, positional, positional_count, positional_words, occurs, most, IsWithin, MeansFront, Means, are_accepted, refused_value}
 use Rattle.lexopt_options_spec.specs.Places.{AreTaken, least}
-use Rattle.lexopt_options_spec.specs.Stops.{Mistake, ReadsUpTo, Stops, not_declared, value_of_flag, no_value, not_accepted, one_too_many, too_few, not_taken, not_complete, StopsAt, invalid_argument, invalid_value, missing_argument, missing_option}
+use Rattle.lexopt_options_spec.specs.Stops.{Mistake, ReadsUpTo, Stops, not_declared, value_of_flag, no_value, not_accepted, one_too_many, too_few, not_taken, not_complete, StopsAt, missing_value, unexpected_argument, unexpected_value, unknown_option}
 use Rattle.lexopt_options_spec.proofs.ReadItems.{ReadsAll, all_read}
 use Rattle.lexopt_options_spec.proofs.Sound.{whole_names}
 use Rattle.lexopt_options_spec.proofs.Taken.{not_both, zero_within}
@@ -53,11 +53,15 @@ undeclared options name (spec.positional word) is none = absurd is
 
 -- ---- what is read is one list
 
+pub same_parsed : (d : Declaration) (words : List (List ℕ)) (l m : List Parsed) (items others : List Item) → Spells (table d.options) d.short_equals words items → Spells (table d.options) d.short_equals words others
+    → map (parsed_item d.options) items ≡ map (λ s. Some s) l → map (parsed_item d.options) others ≡ map (λ s. Some s) m → l ≡ m
+same_parsed d words l m items others spelled too are is =
+    let t = table d.options in
+    let same = only_one t (start d.short_equals words) items others tt (spelled_shows t d.short_equals words items spelled) (spelled_shows t d.short_equals words others too) in
+    same_somes l m (sym are ∙ ap (map (parsed_item d.options)) same ∙ is)
+
 pub one_front : (d : Declaration) (words : List (List ℕ)) (l m : List Parsed) → MeansFront d words l → MeansFront d words m → l ≡ m
-one_front d words l m means other =
-    let same = only_one (table d.options) (start d.short_equals words) means.items other.items tt
-    (spelled_shows (table d.options) d.short_equals words means.items means.spelled) (spelled_shows (table d.options) d.short_equals words other.items other.spelled) in
-    same_somes l m (sym means.parsed ∙ ap (map (parsed_item d.options)) same ∙ other.parsed)
+one_front d words l m means other = same_parsed d words l m means.items other.items means.spelled other.spelled means.parsed other.parsed
 
 -- what a reading that reaches the end means
 pub front_parsed : (d : Declaration) → is_sound d.options ≡ true → (words : List (List ℕ)) (items : List Item) (l : List Parsed) → IsReading (table d.options) (start d.short_equals words) steps.end items
@@ -91,57 +95,56 @@ later d words l m items all u reads parsed spelled are final xs reading =
     let same = shown_said t d.short_equals words all (items ++ xs) final (spelled_shows t d.short_equals words all spelled) (says_items t (start d.short_equals words) u items reads final xs reading) in
     (same.0, split (parsed_item d.options) items xs l m parsed (sym (ap (map (parsed_item d.options)) same.1) ∙ are))
 
-ends : (d : Declaration) (words : List (List ℕ)) (before : List Parsed) (mistake : Mistake) (there : ComesTo d words before mistake) (l : List Parsed) → MeansFront d words l
-    → (final : Reply) (m : List Item) → IsReading (table d.options) there.there final m → (final ≡ steps.end) × Later (parsed_item d.options) m before l
-ends d words before mistake there l means = later d words before l there.read.items means.items there.there there.read.read there.read.parsed means.spelled means.parsed
+ends : (d : Declaration) (words : List (List ℕ)) (before : List Parsed) (u : UnreadLine) → ReadsUpTo d (start d.short_equals words) before u → (l : List Parsed) → MeansFront d words l
+    → (final : Reply) (m : List Item) → IsReading (table d.options) u final m → (final ≡ steps.end) × Later (parsed_item d.options) m before l
+ends d words before u read l means = later d words before l read.items means.items u read.read read.parsed means.spelled means.parsed
 
 pub above : (n k : ℕ) (limit : Option ℕ) → limit ≡ Some n → IsWithin (n + suc k) limit → ⊥
 above n k None is within = let e : None ≡ Some n = is in cc
 above n k (Some m) is within = let e : m ≡ n = (let f : Some m ≡ Some n = is in cc) in omega arith
 
-stops_front : (d : Declaration) (words : List (List ℕ)) (before : List Parsed) (mistake other : Mistake) (there : ComesTo d words before mistake) → mistake ≡ other
-    → ((count : ℕ) → other ≡ missing_argument count → ⊥) → ((index : ℕ) → other ≡ missing_option index → ⊥) → ((index : ℕ) (value : List ℕ) → other ≡ invalid_value index value → ⊥)
-    → ((index : ℕ) (word : List ℕ) → other ≡ invalid_argument index word → ⊥) → Stops d before there.there other → (l : List Parsed) → MeansFront d words l → ⊥
-stops_front d words before mistake other there is not neither nor never (not_declared name v step none) l means =
-    let t = table d.options in
-    let r = option_reading t there.there v name (step_line next there.there (option_reply name) v there.read.line step) step in
-    let e = ends d words before mistake there l means r.0 (item_after name r.1 ∷ items_of_replies r.1) r.2 in
-    let rest = e.1 in
+-- it is a mistake before the end of a line, and not a value that is not accepted
+abbrev pub StopsEarly : Mistake → Type 0
+StopsEarly (unknown_option name left) = Unit {0}
+StopsEarly (unexpected_value option value) = Unit {0}
+StopsEarly (missing_value index option) = Unit {0}
+StopsEarly (unexpected_argument word) = Unit {0}
+StopsEarly why = ⊥
+
+stops_front : (d : Declaration) (words : List (List ℕ)) (before : List Parsed) (mistake : Mistake) (u : UnreadLine) → ReadsUpTo d (start d.short_equals words) before u → StopsEarly mistake → Stops d before u mistake
+    → (l : List Parsed) → MeansFront d words l → ⊥
+stops_front d words before mistake u read early (not_declared name v step none) l means =
+    let r = option_reading (table d.options) u v name (step_line next u (option_reply name) v read.line step) step in
+    let rest = (ends d words before u read l means r.0 (item_after name r.1 ∷ items_of_replies r.1) r.2).1 in
     first_none (parsed_item d.options) (item_after name r.1) (items_of_replies r.1) rest.later (undeclared d.options name (item_after name r.1) (item_of name r.1) none) rest.are
-stops_front d words before mistake other there is not neither nor never (value_of_flag option value v step) l means =
-    let e = ends d words before mistake there l means (steps.unexpected option value) _ (reads_last (table d.options) there.there v (steps.unexpected option value) tt step) in
+stops_front d words before mistake u read early (value_of_flag option value v step) l means =
+    let e = ends d words before u read l means (steps.unexpected option value) _ (reads_last (table d.options) u v (steps.unexpected option value) tt step) in
     let f : steps.unexpected option value ≡ steps.end = e.0 in cc
-stops_front d words before mistake other there is not neither nor never (no_value name index option call v w step found due takes) l means =
-    let e = ends d words before mistake there l means (steps.missing (Some option)) _
-    (reads_refused (table d.options) there.there v w name (kind (table d.options) name) call (steps.missing (Some option)) refl due tt step takes) in
+stops_front d words before mistake u read early (no_value name index option call v w step found due takes) l means =
+    let e = ends d words before u read l means (steps.missing (Some option)) _
+    (reads_refused (table d.options) u v w name (kind (table d.options) name) call (steps.missing (Some option)) refl due tt step takes) in
     let f : steps.missing (Some option) ≡ steps.end = e.0 in cc
-stops_front d words before mistake other there is not neither nor never (one_too_many word v step limit) l means =
+stops_front d words before mistake u read early (one_too_many word v step limit) l means =
     let t = table d.options in
-    let r = some_reading t v (step_line next there.there (steps.positional word) v there.read.line step) in
-    let e = ends d words before mistake there l means r.0 _ (says_positional t there.there v word step r.0 r.1 r.2) in
-    let rest = e.1 in
+    let r = some_reading t v (step_line next u (steps.positional word) v read.line step) in
+    let rest = (ends d words before u read l means r.0 _ (says_positional t u v word step r.0 r.1 r.2)).1 in
     let first = first_is (parsed_item d.options) (spec.positional word) (positional word) r.1 rest.later refl rest.are in
     let count : positional_count l ≡ positional_count before + suc (positional_count first.0) =
     ap positional_count rest.all_are ∙ count_append before rest.later ∙ ap (λ m. positional_count before + positional_count m) first.1 ∙ ap (λ n. positional_count before + n) (omega arith) in
     above (positional_count before) (positional_count first.0) (most d.positionals) limit (subst (λ n. IsWithin n (most d.positionals)) count means.within)
-stops_front d words before mistake other there is not neither nor never (not_accepted s index value v read option refused) l means = absurd (nor index value refl)
-stops_front d words before mistake other there is not neither nor never (too_few v step few) l means = absurd (not (positional_count before) refl)
-stops_front d words before mistake other there is not neither nor never (not_complete index v step enough taken first) l means = absurd (neither index refl)
-stops_front d words before mistake other there is not neither nor never (not_taken index word v step enough unfit) l means = absurd (never index word refl)
+stops_front d words before mistake u read early (not_accepted s index value v more option refused) l means = early
+stops_front d words before mistake u read early (too_few v step few) l means = early
+stops_front d words before mistake u read early (not_complete index v step enough taken first) l means = early
+stops_front d words before mistake u read early (not_taken index word v step enough unfit) l means = early
 
--- these words mean nothing, unless a positional or an option is missing, or a value or a word is
--- not accepted
-pub no_front : (d : Declaration) (words : List (List ℕ)) (before : List Parsed) (mistake : Mistake) → ComesTo d words before mistake
-    → ((count : ℕ) → mistake ≡ missing_argument count → ⊥) → ((index : ℕ) → mistake ≡ missing_option index → ⊥) → ((index : ℕ) (value : List ℕ) → mistake ≡ invalid_value index value → ⊥)
-    → ((index : ℕ) (word : List ℕ) → mistake ≡ invalid_argument index word → ⊥) → (l : List Parsed) → MeansFront d words l → ⊥
-no_front d words before mistake there not neither nor never l means = stops_front d words before mistake mistake there refl not neither nor never there.stops l means
+-- these words mean nothing
+pub no_front : (d : Declaration) (words : List (List ℕ)) (before : List Parsed) (mistake : Mistake) → ComesTo d words before mistake → StopsEarly mistake → (l : List Parsed) → MeansFront d words l → ⊥
+no_front d words before mistake at early l means = stops_front d words before mistake at.there at.read early at.stops l means
 
 -- if something is missing, what was read is all that the words mean
-front_is : (d : Declaration) (words : List (List ℕ)) (before : List Parsed) (mistake : Mistake) (there : ComesTo d words before mistake) (v : UnreadLine) → Next there.there steps.end v
-    → (l : List Parsed) → MeansFront d words l → l ≡ before
-front_is d words before mistake there v step l means =
-    let e = ends d words before mistake there l means steps.end [] (reads_last (table d.options) there.there v steps.end tt step) in
-    let rest = e.1 in
+front_is : (d : Declaration) (words : List (List ℕ)) (before : List Parsed) (u v : UnreadLine) → ReadsUpTo d (start d.short_equals words) before u → Next u steps.end v → (l : List Parsed) → MeansFront d words l → l ≡ before
+front_is d words before u v read step l means =
+    let rest = (ends d words before u read l means steps.end [] (reads_last (table d.options) u v steps.end tt step)).1 in
     rest.all_are ∙ ap (λ m. before ++ m) (sym (same_somes [] rest.later rest.are)) ∙ append-nil before
 
 -- if all values are accepted, none is refused
@@ -151,38 +154,32 @@ not_refused options [] s rest value accepted refused =
 not_refused options (b ∷ before) s rest value accepted refused =
     let parts = and_parts (is_none (refused_value options b)) (are_accepted options (before ++ s ∷ rest)) accepted in not_refused options before s rest value parts.1 refused
 
-stops_whole : (d : Declaration) (words : List (List ℕ)) (before : List Parsed) (mistake other : Mistake) (there : ComesTo d words before mistake) → mistake ≡ other
-    → Stops d before there.there other → (l : List Parsed) → Means d words l → ⊥
-stops_whole d words before mistake other there is (too_few v step few) l means =
-    let same = front_is d words before mistake there v step l means.front in
-    let enough : least d.positionals ≤ positional_count before = subst (λ m. least d.positionals ≤ positional_count m) same means.enough in
+stops_whole : (d : Declaration) (words : List (List ℕ)) (before : List Parsed) (mistake : Mistake) (u : UnreadLine) → ReadsUpTo d (start d.short_equals words) before u → Stops d before u mistake
+    → (l : List Parsed) → Means d words l → ⊥
+stops_whole d words before mistake u read (too_few v step few) l means =
+    let enough : least d.positionals ≤ positional_count before = subst (λ m. least d.positionals ≤ positional_count m) (front_is d words before u v read step l means.front) means.enough in
     omega arith
-stops_whole d words before mistake other there is (not_complete index v step enough taken first) l means =
-    let same = front_is d words before mistake there v step l means.front in
+stops_whole d words before mistake u read (not_complete index v step enough taken first) l means =
+    let same = front_is d words before u v read step l means.front in
     false≢true (sym first.absent ∙ ap (occurs index) (sym same) ∙ means.complete index first.here)
-stops_whole d words before mistake other there is (not_taken index word v step enough unfit) l means =
-    let same = front_is d words before mistake there v step l means.front in
+stops_whole d words before mistake u read (not_taken index word v step enough unfit) l means =
+    let same = front_is d words before u v read step l means.front in
     not_both d.positionals (positional_words before) index word unfit (subst (λ m. AreTaken d.positionals (positional_words m)) same means.taken)
-stops_whole d words before mistake other there is (not_accepted s index value v read option refused) l means =
-    let t = table d.options in
-    let r = some_reading t v read.line in
-    let e = ends d words before mistake there l means.front r.0 (read.items ++ r.1) (says_items t there.there v read.items read.read r.0 r.1 r.2) in
-    let rest = e.1 in
-    let more = split (parsed_item d.options) read.items r.1 (s ∷ []) rest.later read.parsed rest.are in
+stops_whole d words before mistake u read (not_accepted s index value v own option refused) l means =
+    let r = some_reading (table d.options) v own.line in
+    let rest = (ends d words before u read l means.front r.0 (own.items ++ r.1) (says_items (table d.options) u v own.items own.read r.0 r.1 r.2)).1 in
+    let more = split (parsed_item d.options) own.items r.1 (s ∷ []) rest.later own.parsed rest.are in
     let accepted : are_accepted d.options (before ++ s ∷ more.later) ≡ true = subst (λ m. are_accepted d.options m ≡ true) (rest.all_are ∙ ap (λ m. before ++ m) more.all_are) means.accepted in
     not_refused d.options before s more.later value accepted refused
-stops_whole d words before mistake other there is (not_declared name v step none) l means =
-    stops_front d words before mistake other there is (λ count same. cc) (λ index same. cc) (λ index value same. cc) (λ index word same. cc) (not_declared name v step none) l means.front
-stops_whole d words before mistake other there is (value_of_flag option value v step) l means =
-    stops_front d words before mistake other there is (λ count same. cc) (λ index same. cc) (λ index value same. cc) (λ index word same. cc) (value_of_flag option value v step) l means.front
-stops_whole d words before mistake other there is (no_value name index option call v w step found due takes) l means =
-    stops_front d words before mistake other there is (λ count same. cc) (λ index same. cc) (λ index value same. cc) (λ index word same. cc) (no_value name index option call v w step found due takes) l means.front
-stops_whole d words before mistake other there is (one_too_many word v step limit) l means =
-    stops_front d words before mistake other there is (λ count same. cc) (λ index same. cc) (λ index value same. cc) (λ index word same. cc) (one_too_many word v step limit) l means.front
+stops_whole d words before mistake u read (not_declared name v step none) l means = stops_front d words before _ u read tt (not_declared name v step none) l means.front
+stops_whole d words before mistake u read (value_of_flag option value v step) l means = stops_front d words before _ u read tt (value_of_flag option value v step) l means.front
+stops_whole d words before mistake u read (no_value name index option call v w step found due takes) l means =
+    stops_front d words before _ u read tt (no_value name index option call v w step found due takes) l means.front
+stops_whole d words before mistake u read (one_too_many word v step limit) l means = stops_front d words before _ u read tt (one_too_many word v step limit) l means.front
 
 -- words whose reading stops mean nothing
 pub nothing_parsed : (d : Declaration) (words : List (List ℕ)) (before : List Parsed) (mistake : Mistake) → StopsAt d words before mistake → (l : List Parsed) → Means d words l → ⊥
-nothing_parsed d words before mistake at l means = let there = comes_to at in stops_whole d words before mistake mistake there refl there.stops l means
+nothing_parsed d words before mistake at l means = stops_whole d words before mistake at.there at.read at.stops l means
 
 -- ---- what a front of a line means
 

@@ -158,7 +158,7 @@ pub option_before_separator : (u v : UnreadLine) (name : Name) → IsLine u → 
 option_before_separator u v (short c) line step = next_open u v (steps.short c) line (option_given u v (short c) step) tt
 option_before_separator u v (long text) line step = next_open u v (steps.long text) line (option_given u v (long text) step) tt
 
-full_ended : (v w : UnreadLine) (r : Reply) → FullStep v r w → w.ended ≡ v.ended
+pub full_ended : (v w : UnreadLine) (r : Reply) → FullStep v r w → w.ended ≡ v.ended
 full_ended v w r (joined_one value has r_is after) = ap (λ (x : UnreadLine). x.ended) after
 full_ended v w r (attached_first value front left has plain r_is after) = ap (λ (x : UnreadLine). x.ended) after
 full_ended v w r (words_alone front left has plain some r_is after) = ap (λ (x : UnreadLine). x.ended) after
@@ -175,7 +175,7 @@ not_normal_more ended [] tail calm none = calm refl
 not_normal_more ended (w ∷ left) tail calm none = none
 
 -- the front of plain words is still the longest
-front_more : (ended : Bool) (words front left tail : List (List ℕ)) → (left ≡ [] → ¬ IsNormalIn ended tail) → IsPlainFront ended words front left → IsPlainFront ended (words ++ tail) front (left ++ tail)
+pub front_more : (ended : Bool) (words front left tail : List (List ℕ)) → (left ≡ [] → ¬ IsNormalIn ended tail) → IsPlainFront ended words front left → IsPlainFront ended (words ++ tail) front (left ++ tail)
 front_more ended words front left tail calm is = record {
   words_are = ap (λ l. l ++ tail) is.words_are ∙ append_assoc front left tail;
   plain = is.plain;
@@ -301,29 +301,6 @@ items_calm t tail u w (x ∷ items) line calm (v, first, others) =
     before : (items : List Item) → ReadsItems t v items w → Calm v tail
     before [] is = subst (λ z. Calm z tail) is calm
     before (y ∷ ys) (z, next, more) = calm_before t v z y next tail
-
--- items are read in the same way whatever words come at the end, or one more plain word there is
--- one more value of the last
-pub data Grown (t : Table) (u : UnreadLine) (items : List Item) (w : UnreadLine) : Type 0 where
-  closed_items : ((tail : List (List ℕ)) → ReadsItems t (longer tail u) items (longer tail w)) → Grown t u items w
-  opened_items : w.ended ≡ false
-      → (w.words ≡ [] → (p : List ℕ) → IsPlain false p → (front : List Item) × (name : Name) × (values : List (List ℕ)) × ReadsItems t (longer (p ∷ []) u) (front ++ many name values ∷ []) w) → Grown t u items w
-
-pub grown : (t : Table) (u w : UnreadLine) (items : List Item) → IsLine u → ReadsItems t u items w → Grown t u items w
-grown t u w [] line reads = closed_items (λ tail. ap (longer tail) reads)
-grown t u w (x ∷ []) line (v, first, is) =
-    let grows = grows_first t u v x line first in subst (Grown t u (x ∷ [])) (sym is) (only grows.0 grows.1)
-  where
-    only : (opens : Bool) → Grows t u x opens v → Grown t u (x ∷ []) v
-    only false grows = closed_items (λ tail. (longer tail v, grows.closed refl tail, refl))
-    only true grows =
-        let there = grows.opened refl in opened_items there.before_separator (λ none p plain. ([], there.name, there.values ++ p ∷ [], (v, there.more none p plain, refl)))
-grown t u w (x ∷ y ∷ items) line (v, first, others) = let grows = grows_first t u v x line first in more (λ tail. grows.1.calm tail (calm_before t v others.0 y others.1 tail)) (grown t v w (y ∷ items) grows.2 others)
-  where
-    more : ((tail : List (List ℕ)) → ReadsFirst t (longer tail u) x (longer tail v)) → Grown t v (y ∷ items) w → Grown t u (x ∷ y ∷ items) w
-    more again (closed_items all) = closed_items (λ tail. (longer tail v, again tail, all tail))
-    more again (opened_items before all) = opened_items before
-        (λ none p plain. let one_more = all none p plain in (x ∷ one_more.0, one_more.1, one_more.2, (longer (p ∷ []) v, again (p ∷ []), one_more.3)))
 
 -- ---- the end of a line
 

@@ -9,6 +9,7 @@ pub mod Cuts
 pub mod Growing
 pub mod ReadItems
 pub mod Rests
+pub mod PastSeparator
 pub mod OneRest
 pub mod Distance
 pub mod Nearest

@@ -1,15 +1,12 @@
 -- Values that options accept.
-use Rattle.std.proofs.Common.{◌≡◌, ◌==◌, ◌<◌, ℕ, zero, suc, Bool, true, false, not, List, [], ◌∷◌, ◌++◌, position, length, Some, None, is_none, cond, option_and_then, slice_get, unwrap_or, refl, sym, ap, subst, ◌∙◌, arith, ⊎_elim}
+use Rattle.std.proofs.Common.{◌≡◌, ◌==◌, ℕ, Bool, true, false, not, List, [], ◌∷◌, ◌++◌, position, Some, None, is_none, cond, option_and_then, slice_get, unwrap_or, refl, sym, ap, ◌∙◌}
 use Rattle.std.specs.List.{list_all, list_any}
 use Rattle.std.specs.Option.{option_map}
 use Rattle.std.proofs.lemmas.Bool.{and_parts, and_from, not-true, or_left, false≢true, eq-eqb}
-use Rattle.std.proofs.lemmas.List.Quantifiers.{position-Some}
-use Rattle.std.proofs.lemmas.Option.{slice_get_cases}
 use Rattle.lexopt_spec.specs.UnreadLine.{dash, equals, BeginsWith}
-use Rattle.lexopt_line_spec.specs.Table.{Name}
-use Rattle.lexopt_options_spec.specs.Declaration.{Declared, Reason, Words, accepts, files, directories, text, listed, bad_list, fault, faults, has_name, index_of, is_blank_or_control, is_listable, is_placeholder, is_sound, list_fault, all_names, name_fault, names_fault, placeholder_fault}
+use Rattle.lexopt_options_spec.specs.Declaration.{Declared, Reason, Words, accepts, files, directories, text, listed, bad_list, is_blank_or_control, is_listable, is_placeholder, is_sound, list_fault, all_names, name_fault, names_fault, placeholder_fault}
 use Rattle.lexopt_options_spec.specs.Legal.{Parsed, option, several, accepts_at, are_accepted, refused_value}
-use Rattle.lexopt_options_spec.proofs.Sound.{neither, no_fault}
+use Rattle.lexopt_options_spec.proofs.Sound.{neither, none_wrong}
 use Rattle.lexopt_options_spec.proofs.Tables.{pointwise_refl}
 
 -- ---- a value for each option
@@ -50,38 +47,10 @@ value_plain (listed (value ∷ values)) none begins =
     let parts = and_parts (is_listable value) (list_all is_listable values) all in
     not_dashed value parts.0 begins
 
--- ---- options that can be declared
-
-list_after : (before os : List Declared) (i : ℕ) (o : Declared) → list_all is_none (faults before os) ≡ true → slice_get os i ≡ Some o → list_fault o.words ≡ None
-list_after before [] i o sound at = absurd (let e : None ≡ Some o = at in cc)
-list_after before (p ∷ os) zero o sound at =
-    let parts = and_parts (is_none (fault before p)) (list_all is_none (faults (before ++ p ∷ []) os)) sound in
-    let none = no_fault (fault before p) parts.0 in
-    let later = (neither (names_fault name_fault (all_names p)) _ none).1 in
-    let last = (neither (placeholder_fault p.kind p.placeholder) _ later).1 in
-    let same : p ≡ o = cc in
-    subst (λ (q : Declared). list_fault q.words ≡ None) same (neither (list_fault p.words) _ last).0
-list_after before (p ∷ os) (suc i) o sound at =
-    let parts = and_parts (is_none (fault before p)) (list_all is_none (faults (before ++ p ∷ []) os)) sound in
-    list_after (before ++ p ∷ []) os i o parts.1 at
-
 pub list_good : (options : List Declared) (i : ℕ) (o : Declared) → is_sound options ≡ true → slice_get options i ≡ Some o → list_fault o.words ≡ None
-list_good options i o sound at = list_after [] options i o sound at
-
--- the option at an index
-pub option_there : (options : List Declared) (name : Name) (i : ℕ) → index_of options name ≡ Some i → (o : Declared) × (slice_get options i ≡ Some o)
-option_there options name i found = ⊎_elim
-    (λ here. (here.0, here.2))
-    (λ past. absurd (let within = inside options found in omega (arith, within, past.0)))
-    (slice_get_cases options i).1
-  where
-    inside : (os : List Declared) → position (has_name name) os ≡ Some i → i < length os
-    inside [] found = absurd (let e : None ≡ Some i = found in cc)
-    inside (o ∷ os) found = (position-Some (has_name name) (o ∷ os) i o found).0
-
-pub slice_get_at : (before os : List Declared) (o : Declared) → slice_get (before ++ o ∷ os) (length before) ≡ Some o
-slice_get_at [] os o = refl
-slice_get_at (p ∷ before) os o = slice_get_at before os o
+list_good options i o sound at =
+    let later = (neither (names_fault name_fault (all_names o)) _ (none_wrong options i o sound at)).1 in
+    (neither (list_fault o.words) _ (neither (placeholder_fault o.kind o.placeholder) _ later).1).0
 
 -- ---- what is accepted
 

@@ -1,5 +1,6 @@
 -- Lists of what is read.
 use Rattle.std.proofs.Common.{◌≡◌, ◌+◌, List, [], ◌∷◌, ◌++◌, map, Option, Some, None, refl, sym, ap, ◌∙◌, arith}
+use Rattle.std.proofs.lemmas.List.{map-append}
 use Rattle.std.proofs.lemmas.Option.{same_Some}
 use Rattle.lexopt_options_spec.specs.Legal.{Parsed, positional_count}
 
@@ -39,15 +40,16 @@ split f (x ∷ xs) ys (b ∷ bs) (a ∷ all) is whole =
       are = rest.are;
     }
 
+-- two lists, one after the other
+pub both_are : {X Y : Type 0} (f : X → Option Y) (xs xs' : List X) (ys ys' : List Y) → map f xs ≡ map (λ y. Some y) ys → map f xs' ≡ map (λ y. Some y) ys'
+    → map f (xs ++ xs') ≡ map (λ y. Some y) (ys ++ ys')
+both_are f xs xs' ys ys' is other =
+    map-append f xs xs' ∙ ap (λ l. l ++ map f xs') is ∙ ap (λ l. map (λ y. Some y) ys ++ l) other ∙ sym (map-append (λ y. Some y) ys ys')
+
 -- one more element at the end
 pub joined : {X Y : Type 0} (f : X → Option Y) (xs : List X) (ys : List Y) (x : X) (y : Y) → map f xs ≡ map (λ y. Some y) ys → f x ≡ Some y
     → map f (xs ++ x ∷ []) ≡ map (λ y. Some y) (ys ++ y ∷ [])
-joined f [] [] x y is one = ap (λ z. z ∷ []) one
-joined f [] (b ∷ bs) x y is one = absurd (let e : [] ≡ Some b ∷ map (λ y. Some y) bs = is in cc)
-joined f (a ∷ xs) [] x y is one = absurd (let e : f a ∷ map f xs ≡ [] = is in cc)
-joined f (a ∷ xs) (b ∷ bs) x y is one =
-    let p = first_same (f a) (Some b) (map f xs) (map (λ y. Some y) bs) is in
-    ap (λ z. z ∷ map f (xs ++ x ∷ [])) p.0 ∙ ap (λ l. Some b ∷ l) (joined f xs bs x y p.1 one)
+joined f xs ys x y is one = both_are f xs (x ∷ []) ys (y ∷ []) is (ap (λ z. z ∷ []) one)
 
 -- there is no list with this first element
 pub first_none : {X Y : Type 0} (f : X → Option Y) (x : X) (xs : List X) (l : List Y) → f x ≡ None → map f (x ∷ xs) ≡ map (λ y. Some y) l → ⊥

@@ -1,19 +1,19 @@
--- Which spellings there are.
-use Rattle.std.proofs.Common.{◌≡◌, ◌<◌, ℕ, zero, suc, Bool, not, true, false, ◌||◌, ◌⊎◌, ◌+◌, List, [], ◌∷◌, map, filter, length, nat_eq, Some, None, if◌then◌else◌, refl, sym, ap, subst, ◌∙◌, arith, inl, inr, ⊎_elim}
-use Rattle.std.specs.List.{Contains, flat_map, list_any, starts_with}
+-- Which spellings there are, and which are offered.
+use Rattle.std.proofs.Common.{◌≡◌, ◌<◌, ◌==◌, ℕ, zero, suc, Bool, not, true, false, ◌||◌, ◌&&◌, ◌⊎◌, ◌+◌, List, [], ◌∷◌, filter, length, nat_eq, Some, None, if◌then◌else◌, refl, sym, ap, subst, ◌∙◌, arith, inl, inr, ⊎_elim}
+use Rattle.std.specs.Cmp.Lexicographic.{pointwise, same_text}
+use Rattle.std.specs.List.{Contains, list_any, starts_with}
 use Rattle.std.specs.List.{position_or_len}
 use Rattle.std.specs.Str.{IsUtf8}
-use Rattle.std.proofs.lemmas.Bool.{false≢true, lt-ltb, or_left, or_right}
+use Rattle.std.proofs.lemmas.Bool.{eq-eqb, false≢true, lt-ltb, or_left, or_right}
 use Rattle.std.proofs.lemmas.List.Folds.{list_any-append}
 use Rattle.std.proofs.lemmas.List.Elements.{Contains-append_left, Contains-append_right, Contains-append_cases}
 use Rattle.lexopt_line_spec.specs.Table.{Name}
-use Rattle.lexopt_options_spec.specs.Declaration.{Declaration, Declared, all_names, has_name, index_of, is_name, is_one_of, is_sound, names_of}
+use Rattle.lexopt_options_spec.specs.Declaration.{Declaration, Declared, has_name, index_of, is_name, is_one_of, is_sound, names_of}
 use Rattle.lexopt_options_spec.specs.Legal.{Parsed, are_accepted, positional_words}
-use Rattle.lexopt_options_spec.specs.Completion.{spelling, spellings, AreText, IsOpen, CanOccur, Completes, is_shown}
-use Rattle.lexopt_options_spec.specs.Help.{visible}
+use Rattle.lexopt_options_spec.specs.Completion.{AreText, CanOccur, Completes, IsOpen, Spelled, is_offered, spelled, spelled_by, spelling, spellings, texts}
 use Rattle.lexopt_options_spec.proofs.Sound.{found, either}
-use Rattle.lexopt_options_spec.proofs.Tables.{name_is, name_refl}
-use Rattle.lexopt_options_spec.proofs.Occurs.{AreNamed, can_occur, its_name}
+use Rattle.lexopt_options_spec.proofs.Tables.{name_is, name_refl, pointwise_refl}
+use Rattle.lexopt_options_spec.proofs.Occurs.{AreNamed, can_occur}
 use Rattle.lexopt_options_spec.proofs.Taken.{AreFilled}
 
 pub cons_cases : {X : Type 0} (x : X) (xs : List X) (s : X) → Contains (x ∷ xs) s → (x ≡ s) ⊎ Contains xs s
@@ -31,65 +31,84 @@ none s (k, within, is) = omega (arith, within)
 
 -- ---- a name and its spelling
 
--- the spellings of these names of the options, in order
-abbrev pub spellings_by : (Declared → List Name) → List Declared → List (List ℕ)
-spellings_by names options = flat_map (λ o. map spelling (names o)) options
+-- the spelling of a name of an option with this help text
+abbrev of_name : List ℕ → Bool → Name → Spelled
+of_name help shown name = record { text = spelling name; help = help; shown = shown }
 
-one_has : (names : List Name) (name : Name) → is_one_of names name ≡ true → Contains (map spelling names) (spelling name)
-one_has [] name is = absurd (false≢true is)
-one_has (n ∷ ns) name is = either (is_name name n) (is_one_of ns name) (Contains (map spelling (n ∷ ns)) (spelling name)) is
-    (λ one. here (spelling n) (map spelling ns) (spelling name) (ap (λ x. spelling x) (name_is name n one)))
-    (λ other. there (spelling n) (map spelling ns) (spelling name) (one_has ns name other))
+one_has : (help : List ℕ) (shown : Bool) (names : List Name) (name : Name) → is_one_of names name ≡ true → Contains (spelled help shown names) (of_name help shown name)
+one_has help shown [] name is = absurd (false≢true is)
+one_has help shown (n ∷ ns) name is = either (is_name name n) (is_one_of ns name) (Contains (spelled help shown (n ∷ ns)) (of_name help shown name)) is
+    (λ one. here (of_name help shown n) (spelled help shown ns) (of_name help shown name) (ap (of_name help shown) (name_is name n one)))
+    (λ other. there (of_name help shown n) (spelled help shown ns) (of_name help shown name) (one_has help shown ns name other))
 
-pub is_among : (names : Declared → List Name) (name : Name) (os : List Declared) → list_any (λ o. is_one_of (names o) name) os ≡ true → Contains (spellings_by names os) (spelling name)
-is_among names name [] is = absurd (false≢true is)
-is_among names name (o ∷ os) is = either (is_one_of (names o) name) (list_any (λ p. is_one_of (names p) name) os) (Contains (spellings_by names (o ∷ os)) (spelling name)) is
-    (λ one. Contains-append_left (map spelling (names o)) (spellings_by names os) (spelling name) (one_has (names o) name one))
-    (λ other. Contains-append_right (map spelling (names o)) (spellings_by names os) (spelling name) (is_among names name os other))
+-- these spellings have that of this name
+abbrev HasSpelling : List Spelled → Name → Type 0
+HasSpelling list name = (s : Spelled) × Contains list s × (s.text ≡ spelling name)
 
--- s is the spelling of one of these names of these options
-pub record IsNamed (names : Declared → List Name) (os : List Declared) (s : List ℕ) : Type 0 where
-  pub name : Name
-  pub is : s ≡ spelling name
-  pub among : list_any (λ o. is_one_of (names o) name) os ≡ true
+is_among : (name : Name) (os : List Declared) → list_any (has_name name) os ≡ true → HasSpelling (spellings os) name
+is_among name [] is = absurd (false≢true is)
+is_among name (o ∷ os) is = either (has_name name o) (list_any (has_name name) os) (HasSpelling (spellings (o ∷ os)) name) is
+    (λ one. either (is_one_of (names_of o) name) (is_one_of o.aliases name) (HasSpelling (spellings (o ∷ os)) name) (sym (list_any-append (is_name name) (names_of o) o.aliases) ∙ one)
+    (λ own. (of_name o.help (not o.hidden) name, Contains-append_left (spelled_by o) (spellings os) _ (Contains-append_left _ (spelled o.help false o.aliases) _ (one_has o.help (not o.hidden) (names_of o) name own)), refl))
+    (λ further. (of_name o.help false name, Contains-append_left (spelled_by o) (spellings os) _ (Contains-append_right (spelled o.help (not o.hidden) (names_of o)) _ _ (one_has o.help false o.aliases name further)), refl)))
+    (λ other. let m = is_among name os other in (m.0, Contains-append_right (spelled_by o) (spellings os) _ m.1, m.2))
 
-one_named : (names : List Name) (s : List ℕ) → Contains (map spelling names) s → (name : Name) × (s ≡ spelling name) × (is_one_of names name ≡ true)
-one_named [] s has = absurd (none s has)
-one_named (n ∷ ns) s has = ⊎_elim
-    (λ one. (n, sym one, or_left _ _ (name_refl n)))
-    (λ other. let found = one_named ns s other in (found.0, found.1, or_right (is_name found.0 n) _ found.2))
-    (cons_cases (spelling n) (map spelling ns) s has)
+one_named : (help : List ℕ) (shown : Bool) (names : List Name) (s : Spelled) → Contains (spelled help shown names) s → (name : Name) × (s.text ≡ spelling name) × (is_one_of names name ≡ true)
+one_named help shown [] s has = absurd (none s has)
+one_named help shown (n ∷ ns) s has = ⊎_elim
+    (λ (one : of_name help shown n ≡ s). (n, sym (ap (λ (x : Spelled). x.text) one), or_left _ _ (name_refl n)))
+    (λ other. let m = one_named help shown ns s other in (m.0, m.1, or_right (is_name m.0 n) _ m.2))
+    (cons_cases (of_name help shown n) (spelled help shown ns) s has)
 
-pub named : (names : Declared → List Name) (os : List Declared) (s : List ℕ) → Contains (spellings_by names os) s → IsNamed names os s
-named names [] s has = absurd (none s has)
-named names (o ∷ os) s has = ⊎_elim
-    (λ one. let n = one_named (names o) s one in record { name = n.0; is = n.1; among = or_left _ _ n.2 })
-    (λ other. let n = named names os s other in record { name = n.name; is = n.is; among = or_right (is_one_of (names o) n.name) _ n.among })
-    (Contains-append_cases (map spelling (names o)) (spellings_by names os) s has)
+named : (os : List Declared) (s : Spelled) → Contains (spellings os) s → (name : Name) × (s.text ≡ spelling name) × (list_any (has_name name) os ≡ true)
+named [] s has = absurd (none s has)
+named (o ∷ os) s has = ⊎_elim
+    (λ here. ⊎_elim
+    (λ own. let n = one_named o.help (not o.hidden) (names_of o) s own in (n.0, n.1, or_left _ _ (list_any-append (is_name n.0) (names_of o) o.aliases ∙ or_left _ _ n.2)))
+    (λ further. let n = one_named o.help false o.aliases s further in (n.0, n.1, or_left _ _ (list_any-append (is_name n.0) (names_of o) o.aliases ∙ or_right _ _ n.2)))
+    (Contains-append_cases (spelled o.help (not o.hidden) (names_of o)) (spelled o.help false o.aliases) s here))
+    (λ later. let n = named os s later in (n.0, n.1, or_right (has_name n.0 o) _ n.2))
+    (Contains-append_cases (spelled_by o) (spellings os) s has)
 
--- ---- spellings that begin with something
+-- ---- the spellings that pass a test
 
-pub kept : (p : List ℕ → Bool) (xs : List (List ℕ)) (s : List ℕ) → Contains (filter p xs) s → Contains xs s × (p s ≡ true)
-kept p [] s has = absurd (none s has)
-kept p (x ∷ xs) s has = go (p x) refl (kept p xs s) has
+-- one of these spellings has this text and passes
+abbrev HasPassing : (Spelled → Bool) → List Spelled → List ℕ → Type 0
+HasPassing p list t = (s : Spelled) × Contains list s × (s.text ≡ t) × (p s ≡ true)
+
+kept : (p : Spelled → Bool) (list : List Spelled) (t : List ℕ) → Contains (texts (filter p list)) t → HasPassing p list t
+kept p [] t has = absurd (none t has)
+kept p (x ∷ xs) t has = go (p x) refl (λ more. let r = kept p xs t more in (r.0, there x xs r.0 r.1, r.2, r.3)) has
   where
-    go : (b : Bool) → p x ≡ b → (Contains (filter p xs) s → Contains xs s × (p s ≡ true)) → Contains (if b then x ∷ filter p xs else filter p xs) s → Contains (x ∷ xs) s × (p s ≡ true)
-    go true is rest has = ⊎_elim
-        (λ (e : x ≡ s). (here x xs s e, subst (λ (y : List ℕ). p y ≡ true) e is))
-        (λ more. let r = rest more in (there x xs s r.0, r.1))
-        (cons_cases x (filter p xs) s has)
-    go false is rest has = let r = rest has in (there x xs s r.0, r.1)
+    go : (b : Bool) → p x ≡ b → (Contains (texts (filter p xs)) t → HasPassing p (x ∷ xs) t) → Contains (texts (if b then x ∷ filter p xs else filter p xs)) t → HasPassing p (x ∷ xs) t
+    go true at later has = ⊎_elim (λ same. (x, here x xs x refl, same, at)) later (cons_cases x.text (texts (filter p xs)) t has)
+    go false at later has = later has
 
-pub keeps : (p : List ℕ → Bool) (xs : List (List ℕ)) (s : List ℕ) → Contains xs s → p s ≡ true → Contains (filter p xs) s
+keeps : (p : Spelled → Bool) (list : List Spelled) (s : Spelled) → Contains list s → p s ≡ true → Contains (texts (filter p list)) s.text
 keeps p [] s has is = absurd (none s has)
 keeps p (x ∷ xs) s has is = go (p x) refl (λ more. keeps p xs s more is)
   where
-    go : (b : Bool) → p x ≡ b → (Contains xs s → Contains (filter p xs) s) → Contains (if b then x ∷ filter p xs else filter p xs) s
-    go true at rest = ⊎_elim (λ e. here x (filter p xs) s e) (λ more. there x (filter p xs) s (rest more)) (cons_cases x xs s has)
-    go false at rest = ⊎_elim
-        (λ (e : x ≡ s). absurd (false≢true (sym at ∙ ap p e ∙ is)))
-        (λ more. rest more)
-        (cons_cases x xs s has)
+    go : (b : Bool) → p x ≡ b → (Contains xs s → Contains (texts (filter p xs)) s.text) → Contains (texts (if b then x ∷ filter p xs else filter p xs)) s.text
+    go true at later = ⊎_elim (λ (same : x ≡ s). here x.text _ s.text (ap (λ (y : Spelled). y.text) same)) (λ more. there x.text _ s.text (later more)) (cons_cases x xs s has)
+    go false at later = ⊎_elim (λ (same : x ≡ s). absurd (false≢true (sym at ∙ ap p same ∙ is))) later (cons_cases x xs s has)
+
+begins_itself : (xs : List ℕ) → starts_with nat_eq xs xs ≡ true
+begins_itself [] = refl
+begins_itself (x ∷ xs) = ap (λ b. b && starts_with nat_eq xs xs) (eq-eqb x x refl) ∙ begins_itself xs
+
+-- a spelling that is offered begins with what was typed, and is shown or typed whole
+begins_so : (typed : List ℕ) (s : Spelled) → is_offered typed s ≡ true → (starts_with nat_eq s.text typed ≡ true) × ((s.shown ≡ true) ⊎ (s.text ≡ typed))
+begins_so typed s is = go s.shown refl is
+  where
+    go : (b : Bool) → s.shown ≡ b → (if b then starts_with nat_eq s.text typed else pointwise ◌==◌ s.text typed) ≡ true → (starts_with nat_eq s.text typed ≡ true) × ((s.shown ≡ true) ⊎ (s.text ≡ typed))
+    go true at is = (is, inl at)
+    go false at is = let same = same_text s.text typed (sym is) in (subst (λ t. starts_with nat_eq s.text t ≡ true) same (begins_itself s.text), inr same)
+
+shown_offered : (typed : List ℕ) (s : Spelled) → s.shown ≡ true → starts_with nat_eq s.text typed ≡ true → is_offered typed s ≡ true
+shown_offered typed s shown begins = ap (λ (b : Bool). if b then starts_with nat_eq s.text typed else pointwise ◌==◌ s.text typed) shown ∙ begins
+
+whole_offered : (typed : List ℕ) (s : Spelled) → s.text ≡ typed → is_offered typed s ≡ true
+whole_offered typed s is = subst (λ t. is_offered t s ≡ true) is (elim s.shown as (λ (b : Bool). (if b then starts_with nat_eq s.text s.text else pointwise ◌==◌ s.text s.text) ≡ true) [ true ↦ begins_itself s.text | false ↦ pointwise_refl s.text ])
 
 -- ---- what can come
 
@@ -104,49 +123,40 @@ any_within p (o ∷ os) is = go (p o) is (any_within p os)
 an_index : (name : Name) (os : List Declared) → list_any (has_name name) os ≡ true → (i : ℕ) × (index_of os name ≡ Some i)
 an_index name os is = (position_or_len (has_name name) os, ap (λ (b : Bool). if b then Some (position_or_len (has_name name) os) else None) (lt-ltb _ _ (any_within (has_name name) os is)))
 
-pub offered_occurs : (d : Declaration) (words : List (List ℕ)) (l : List Parsed) (s : List ℕ) → is_sound d.options ≡ true → AreText d.options → AreNamed d.options → IsOpen d words l
-    → are_accepted d.options l ≡ true → AreFilled d.positionals (positional_words l) → Contains (spellings_by all_names d.options) s
-    → CanOccur d words s
+pub offered_occurs : (d : Declaration) (words : List (List ℕ)) (l : List Parsed) (s : Spelled) → is_sound d.options ≡ true → AreText d.options → AreNamed d.options → IsOpen d words l
+    → are_accepted d.options l ≡ true → AreFilled d.positionals (positional_words l) → Contains (spellings d.options) s → CanOccur d words s.text
 offered_occurs d words l s sound text names is accepted filled has =
-    let n = named all_names d.options s has in
-    let i = an_index n.name d.options n.among in
-    subst (CanOccur d words) (sym n.is) (can_occur d words l n.name i.0 sound text names is accepted filled i.1 (text n.name n.among))
+    let n = named d.options s has in
+    let i = an_index n.0 d.options n.2 in
+    subst (CanOccur d words) (sym n.1) (can_occur d words l n.0 i.0 sound text names is accepted filled i.1 (text n.0 n.2))
 
-pub occurs_offered : (d : Declaration) (words : List (List ℕ)) (s : List ℕ) → CanOccur d words s → Contains (spellings_by all_names d.options) s
-occurs_offered d words s possible =
-    subst (Contains (spellings_by all_names d.options)) (sym possible.spelled) (is_among all_names possible.name d.options (found (has_name possible.name) d.options possible.index possible.declared))
+pub occurs_offered : (d : Declaration) (words : List (List ℕ)) (t : List ℕ) → CanOccur d words t → (s : Spelled) × Contains (spellings d.options) s × (s.text ≡ t)
+occurs_offered d words t possible =
+    let s = is_among possible.name d.options (found (has_name possible.name) d.options possible.index possible.declared) in
+    (s.0, s.1, s.2 ∙ sym possible.spelled)
 
 -- ---- what is offered
 
--- the own name of an option that is shown is the name of an option
-any_visible : (name : Name) (os : List Declared) → is_shown os name ≡ true → list_any (has_name name) os ≡ true
-any_visible name [] is = is
-any_visible name (o ∷ os) is = go o.hidden is (λ more. or_right (has_name name o) _ (any_visible name os more))
-  where
-    own : Declared → Bool
-    own p = is_one_of (names_of p) name
-
-    go : (h : Bool) → list_any own (if not h then o ∷ visible os else visible os) ≡ true → (list_any own (visible os) ≡ true → (has_name name o || list_any (has_name name) os) ≡ true)
-        → (has_name name o || list_any (has_name name) os) ≡ true
-    go true is later = later is
-    go false is later = either (own o) (list_any own (visible os)) ((has_name name o || list_any (has_name name) os) ≡ true) is
-        (λ one. or_left _ _ (list_any-append (is_name name) (names_of o) o.aliases ∙ or_left _ _ one)) later
-
-pub shown_completes : (d : Declaration) (words : List (List ℕ)) (l : List Parsed) (typed s : List ℕ) → is_sound d.options ≡ true → AreText d.options → AreNamed d.options → IsOpen d words l
-    → are_accepted d.options l ≡ true → AreFilled d.positionals (positional_words l) → IsUtf8 typed → starts_with nat_eq s typed ≡ true → Contains (spellings (visible d.options)) s
-    → Completes d words typed s
-shown_completes d words l typed s sound text names is accepted filled utf8 begins has =
-    let n = named names_of (visible d.options) s has in
-    let declared = any_visible n.name d.options n.among in
-    let i = an_index n.name d.options declared in
-    let t = text n.name declared in
-    subst (Completes d words typed) (sym n.is) (record {
+pub offered_completes : (d : Declaration) (words : List (List ℕ)) (l : List Parsed) (typed t : List ℕ) → is_sound d.options ≡ true → AreText d.options → AreNamed d.options → IsOpen d words l
+    → are_accepted d.options l ≡ true → AreFilled d.positionals (positional_words l) → IsUtf8 typed → Contains (texts (filter (is_offered typed) (spellings d.options))) t → Completes d words typed t
+offered_completes d words l typed t sound text names is accepted filled utf8 has =
+    let s = kept (is_offered typed) (spellings d.options) t has in
+    let b = begins_so typed s.0 s.3 in
+    subst (Completes d words typed) s.2 (record {
       text = utf8;
-      begins = subst (λ (x : List ℕ). starts_with nat_eq x typed ≡ true) n.is begins;
-      possible = can_occur d words l n.name i.0 sound text names is accepted filled i.1 t;
-      shown = subst (λ x. is_shown d.options x ≡ true) (its_name d words l n.name i.0 sound text names is accepted filled i.1 t) n.among;
+      begins = b.0;
+      possible = offered_occurs d words l s.0 sound text names is accepted filled s.1;
+      shown = ⊎_elim (λ shown. inl (keeps (λ x. x.shown) (spellings d.options) s.0 s.1 shown)) (λ whole. inr whole) b.1;
     })
 
-pub completes_shown : (d : Declaration) (words : List (List ℕ)) (typed s : List ℕ) → Completes d words typed s → Contains (spellings (visible d.options)) s
-completes_shown d words typed s completes =
-    subst (Contains (spellings (visible d.options))) (sym completes.possible.spelled) (is_among names_of completes.possible.name (visible d.options) completes.shown)
+pub completes_offered : (d : Declaration) (words : List (List ℕ)) (typed t : List ℕ) → Completes d words typed t → Contains (texts (filter (is_offered typed) (spellings d.options))) t
+completes_offered d words typed t completes = ⊎_elim
+    (λ shown.
+    let s = kept (λ x. x.shown) (spellings d.options) t shown in
+    subst (Contains (texts (filter (is_offered typed) (spellings d.options)))) s.2
+    (keeps (is_offered typed) (spellings d.options) s.0 s.1 (shown_offered typed s.0 s.3 (subst (λ (x : List ℕ). starts_with nat_eq x typed ≡ true) (sym s.2) completes.begins))))
+    (λ whole.
+    let s = occurs_offered d words t completes.possible in
+    subst (Contains (texts (filter (is_offered typed) (spellings d.options)))) s.2
+    (keeps (is_offered typed) (spellings d.options) s.0 s.1 (whole_offered typed s.0 (s.2 ∙ whole))))
+    completes.shown

@@ -36,9 +36,6 @@ not_both : (limit : ℕ) (l : Line) (w : List ℕ) (m : Line) → limit < line_c
 not_both limit l w m over wide (inl narrow) some shorter = absurd (omega arith)
 not_both limit l w m over wide (inr one) some shorter = absurd (omega arith)
 
-same_length : (a b : ℕ) → ¬ (a < b) → ¬ (b < a) → a ≡ b
-same_length a b f g = omega (arith, f, g)
-
 full_tail : (limit : ℕ) (l : Line) (ls : List Line) → AreFull limit (l ∷ ls) → AreFull limit ls
 full_tail limit l [] full = tt
 full_tail limit l (m ∷ ms) full = full.1
@@ -63,7 +60,7 @@ one_wrapping limit [] ((w ∷ ws) ∷ ms) same f g h k = absurd (let e : [] ≡ 
 one_wrapping limit ([] ∷ ls) [] same f g h k = absurd (omega (arith, f.0.words))
 one_wrapping limit ((w ∷ ws) ∷ ls) [] same f g h k = absurd (let e : w ∷ (ws ++ words_in ls) ≡ [] = same in cc)
 one_wrapping limit (l ∷ ls) (m ∷ ms) same f g h k =
-    let a : length l ≡ length m = same_length (length l) (length m) (not_shorter limit l ls m (words_in ms) f h g.0 same) (not_shorter limit m ms l (words_in ls) g k f.0 (sym same)) in
+    let a : length l ≡ length m = (let no_less = not_shorter limit l ls m (words_in ms) f h g.0 same in let no_more = not_shorter limit m ms l (words_in ls) g k f.0 (sym same) in omega (arith, no_less, no_more)) in
     let e : l ≡ m = sym (take-append_seam l (words_in ls)) ∙ ap (take (length l)) same ∙ ap (λ n. take n (m ++ words_in ms)) a ∙ take-append_seam m (words_in ms) in
     let rest : words_in ls ≡ words_in ms = append_cancel_left m (words_in ls) (words_in ms) (ap (λ (x : Line). x ++ words_in ls) (sym e) ∙ same) in
     ap (λ (x : Line). x ∷ ls) e ∙ ap (λ (x : List Line). m ∷ x) (one_wrapping limit ls ms rest f.1 g.1 (full_tail limit l ls h) (full_tail limit m ms k))
@@ -181,23 +178,20 @@ narrow_by : (width column wide n : ℕ) → column ≤ width → (wide ≤ width
 narrow_by width column wide n within (inl fits) = inl (omega arith)
 narrow_by width column wide n within (inr one) = inr one
 
--- a line that begins at this column ends within the width, or is one word
-narrow : (width column : ℕ) (lines : List Line) (line : Line) → column ≤ width → AllFit (width - column) lines → Contains lines line → (column + line_columns line ≤ width) ⊎ (length line ≡ 1)
-narrow width column lines line within fit there = narrow_by width column (line_columns line) (length line) within (fits_at (width - column) lines line fit there).narrow
-
-pub narrow_entry : (width : ℕ) (shown help text : List ℕ) (e : IsEntry width shown help text) (line : Line) → Contains e.lines line → (help_column width + line_columns line ≤ width) ⊎ (length line ≡ 1)
-narrow_entry width shown help text e line there = narrow width (help_column width) e.lines line (omega arith) e.wrapped.fit there
-
 -- if the width is less than the column, no line has two words
 no_room : (width column : ℕ) (line : Line) → width < column → 0 < length line → (line_columns line ≤ width - column) ⊎ (length line ≡ 1) → length line ≡ 1
 no_room width column line over some (inl narrow) = omega arith
 no_room width column line over some (inr one) = one
 
+-- a line that begins at this column ends within the width, or is one word
 narrow_or_one : (width column : ℕ) (line : Line) → Fits (width - column) line → (column + line_columns line ≤ width) ⊎ (length line ≡ 1)
 narrow_or_one width column line fits = ⊎_elim
     (λ over. inr (no_room width column line over fits.words fits.narrow))
     (λ within. narrow_by width column (line_columns line) (length line) within fits.narrow)
     (cases_lt width column)
+
+pub narrow_entry : (width : ℕ) (shown help text : List ℕ) (e : IsEntry width shown help text) (line : Line) → Contains e.lines line → (help_column width + line_columns line ≤ width) ⊎ (length line ≡ 1)
+narrow_entry width shown help text e line there = narrow_or_one width (help_column width) line (fits_at (width - help_column width) e.lines line e.wrapped.fit there)
 
 pub narrow_usage : (width : ℕ) (words : List (List ℕ)) (text : List ℕ) (u : IsUsageLine width words text) (line : Line) → Contains u.lines line → (usage_column + line_columns line ≤ width) ⊎ (length line ≡ 1)
 narrow_usage width words text u line there = narrow_or_one width usage_column line (fits_at (width - usage_column) u.lines line u.wrapped.fit there)

@@ -1,19 +1,19 @@
 -- Words have one rest, and what is read of them before it is what the front says.
-use Rattle.std.proofs.Common.{◌≡◌, ◌≢◌, ◌≤◌, ◌+◌, ℕ, true, false, List, [], ◌∷◌, ◌++◌, map, Option, Some, None, refl, sym, ap, subst, ◌∙◌, inl, append-nil, append_assoc, arith}
+use Rattle.std.proofs.Common.{◌≡◌, ◌≢◌, ◌≤◌, ◌+◌, ◌⊎◌, ℕ, Bool, true, false, List, [], ◌∷◌, ◌++◌, length, map, Option, Some, None, refl, sym, ap, subst, ◌∙◌, inl, inr, ⊎_elim, append-nil, append_assoc, arith, true≢false}
 use Rattle.std.specs.Option.{option_map}
 use Rattle.std.proofs.lemmas.Bool.{false≢true}
-use Rattle.std.proofs.lemmas.List.{append_cancel_right}
-use Rattle.lexopt_spec.specs.UnreadLine.{dash, IsPlain, TailFits, UnreadLine}
+use Rattle.std.proofs.lemmas.List.{append_cancel_right, length-append}
+use Rattle.lexopt_spec.specs.UnreadLine.{IsLine, IsPlain, TailFits, UnreadLine, dash, no_tail}
 use Rattle.lexopt_spec.specs.Steps as steps
-use Rattle.lexopt_spec.specs.Steps.{Reply, NextStep}
-use Rattle.lexopt_spec.specs.Runs.{next}
+use Rattle.lexopt_spec.specs.Steps.{Next, NextStep, Reply, after_separator, next_word, no_word_left, reads_separator, word_left}
+use Rattle.lexopt_spec.specs.Runs as calls
 use Rattle.lexopt_line_spec.specs.Table as spec
 use Rattle.lexopt_line_spec.specs.Table.{Item, Name, Table, kind}
 use Rattle.lexopt_line_spec.specs.Readings.{IsReading, ReadsFirst, ReadsItems, first_positional, first_flag, first_one, first_optional, first_several, item_after, items_of_replies, option_reply, start}
 use Rattle.lexopt_line_spec.specs.Speller.{IsOf}
 use Rattle.lexopt_line_spec.specs.Spelling.{Spells}
 use Rattle.lexopt_line_spec.proofs.Exact.{next_same}
-use Rattle.lexopt_line_spec.proofs.ItemsRead.{one_line_left, says_items}
+use Rattle.lexopt_line_spec.proofs.ItemsRead.{one_line_left, one_more_item, says_items}
 use Rattle.lexopt_line_spec.proofs.Names.{spelled_shows}
 use Rattle.lexopt_line_spec.proofs.OneReading.{no_other_reading, option_reading, some_reading}
 use Rattle.lexopt_line_spec.proofs.ReadingSteps.{reads_last, reads_refused, says_positional}
@@ -22,13 +22,16 @@ use Rattle.lexopt_line_spec.proofs.WholeLines.{shown_read}
 use Rattle.lexopt_options_spec.specs.Declaration.{Declaration, Declared, index_of, table}
 use Rattle.lexopt_options_spec.specs.Legal as legal
 use Rattle.lexopt_options_spec.specs.Legal.{IsWithin, MeansFront, Parsed, are_accepted, counts, is_option, most, positional_count, parsed_item}
-use Rattle.lexopt_options_spec.specs.Rest.{HaveNoRest, IsSplit}
+use Rattle.lexopt_options_spec.specs.Rest.{EndsSeparated, HaveNoRest, IsSplit, RestStart, separated, surplus}
+use Rattle.lexopt_options_spec.specs.States.{Says}
 use Rattle.lexopt_options_spec.specs.Stops.{IsOfOption, Mistake, ReadsUpTo, Stops, invalid_value, not_declared, value_of_flag, no_value, not_accepted, one_too_many, too_few, not_taken, not_complete}
 use Rattle.lexopt_options_spec.proofs.Cuts.{enough, items_cut}
 use Rattle.lexopt_options_spec.proofs.Fronts.{item_of, not_refused, spelled_read, undeclared}
-use Rattle.lexopt_options_spec.proofs.Growing.{EndsSo, ended_before, open_there, separator_last, ends_so, items_calm, longer, step_more}
+use Rattle.lexopt_options_spec.proofs.Growing.{EndsSo, ended_before, ends_so, items_calm, longer, open_there, separator_last, step_more}
 use Rattle.lexopt_options_spec.proofs.Lists.{Later, first_is, first_none, first_same, same_last, split}
 use Rattle.lexopt_options_spec.proofs.Occurs.{dashes_calm}
+use Rattle.lexopt_options_spec.proofs.PastSeparator.{ended_stays, items_line, items_stay, named_open, open_before, option_open}
+use Rattle.lexopt_options_spec.proofs.ReadItems.{ReadsAll}
 use Rattle.lexopt_options_spec.proofs.Rests.{word_read}
 
 -- ---- positionals among items
@@ -60,6 +63,15 @@ same_count options (x ∷ items) (s ∷ l) is =
     let one = word_counts options x s parts.0 in
     let others = same_count options items l parts.1 in omega (arith, one, others)
 
+-- the last thing that is read is the last of these items
+last_item : {X Y : Type 0} (f : X → Option Y) (items : List X) (before : List Y) (last : Y) → map f items ≡ map (λ s. Some s) (before ++ last ∷ []) → (front : List X) × (x : X) × (items ≡ front ++ x ∷ []) × (f x ≡ Some last)
+last_item f [] [] last is = absurd (let e : [] ≡ Some last ∷ [] = is in cc)
+last_item f [] (b ∷ before) last is = absurd (let e : [] ≡ Some b ∷ map (λ s. Some s) (before ++ last ∷ []) = is in cc)
+last_item f (x ∷ []) [] last is = ([], x, refl, (first_same (f x) (Some last) [] [] is).0)
+last_item f (x ∷ y ∷ items) [] last is = absurd (let e : f y ∷ map f items ≡ [] = (first_same (f x) (Some last) (map f (y ∷ items)) [] is).1 in cc)
+last_item f (x ∷ items) (b ∷ before) last is =
+    let rest = last_item f items before last (first_same (f x) (Some b) (map f items) (map (λ s. Some s) (before ++ last ∷ [])) is).1 in (x ∷ rest.0, rest.1, ap (λ xs. x ∷ xs) rest.2, rest.3)
+
 -- the last of these items is this positional
 last_word : (options : List Declared) (items : List Item) (l : List Parsed) (word : List ℕ) → map (parsed_item options) items ≡ map (λ s. Some s) (l ++ legal.positional word ∷ [])
     → (front : List Item) × (items ≡ front ++ spec.positional word ∷ []) × (map (parsed_item options) front ≡ map (λ s. Some s) l)
@@ -81,37 +93,26 @@ last_word options (x ∷ items) (s ∷ l) word is =
     let rest = last_word options items l word parts.1 in
     (x ∷ rest.0, ap (λ xs. x ∷ xs) rest.1, ap (λ z. z ∷ map (parsed_item options) rest.0) parts.0 ∙ ap (λ zs. Some s ∷ zs) rest.2)
 
--- items with no more positionals than come before this one are among the items before it
-inside : (xs ys a zs : List Item) (word : List ℕ) → xs ++ spec.positional word ∷ a ≡ ys ++ zs → count_items ys ≤ count_items xs → (k : List Item) × (xs ≡ ys ++ k) × (k ++ spec.positional word ∷ a ≡ zs)
-inside xs [] a zs word is few = (xs, refl, is)
-inside [] (y ∷ ys) a zs word is few = absurd (let e = ap is_word (first_same (spec.positional word) y a (ys ++ zs) is).0 in omega (arith, e, few))
-inside (x ∷ xs) (y ∷ ys) a zs word is few =
+-- one list of items begins the other, where a positional comes after the first
+begins_other : (xs ys a zs : List Item) (word : List ℕ) → xs ++ spec.positional word ∷ a ≡ ys ++ zs
+    → ((k : List Item) × (xs ≡ ys ++ k) × (k ++ spec.positional word ∷ a ≡ zs)) ⊎ ((k : List Item) × (ys ≡ xs ++ spec.positional word ∷ k))
+begins_other xs [] a zs word is = inl (xs, refl, is)
+begins_other [] (y ∷ ys) a zs word is = inr (ys, ap (λ x. x ∷ ys) (sym (first_same (spec.positional word) y a (ys ++ zs) is).0))
+begins_other (x ∷ xs) (y ∷ ys) a zs word is =
     let parts = first_same x y (xs ++ spec.positional word ∷ a) (ys ++ zs) is in
-    let e = ap is_word parts.0 in
-    let rest = inside xs ys a zs word parts.1 (omega (arith, e, few)) in
-    (rest.0, ap (λ z. z ∷ xs) parts.0 ∙ ap (λ l. y ∷ l) rest.1, rest.2)
+    ⊎_elim (λ rest. inl (rest.0, ap (λ z. z ∷ xs) parts.0 ∙ ap (λ l. y ∷ l) rest.1, rest.2)) (λ rest. inr (rest.0, ap (λ z. z ∷ ys) (sym parts.0) ∙ ap (λ l. x ∷ l) rest.1))
+    (begins_other xs ys a zs word parts.1)
 
 counts_append : (xs ys : List Item) → count_items (xs ++ ys) ≡ count_items xs + count_items ys
 counts_append [] ys = omega arith
 counts_append (x ∷ xs) ys = let rest = counts_append xs ys in omega (arith, rest)
 
--- as many positionals come before either of these, so the same items do
-same_items : (xs ys a b : List Item) (v w : List ℕ) → xs ++ spec.positional v ∷ a ≡ ys ++ spec.positional w ∷ b → count_items xs ≡ count_items ys → xs ≡ ys
-same_items xs ys a b v w is few = by (inside xs ys a (spec.positional w ∷ b) v is (omega (arith, few)))
-  where
-    by : (k : List Item) × (xs ≡ ys ++ k) × (k ++ spec.positional v ∷ a ≡ spec.positional w ∷ b) → xs ≡ ys
-    by ([], same, rest) = same ∙ append-nil ys
-    by (x ∷ k, same, rest) =
-        let e = ap is_word (first_same x (spec.positional w) (k ++ spec.positional v ∷ a) b rest).0 in
-        let f = ap count_items same ∙ counts_append ys (x ∷ k) in absurd (omega (arith, e, f, few))
-
 -- ---- the reading of a front
 
--- the last of the items is read
-split_last : (t : Table) (u w : UnreadLine) (items : List Item) (item : Item) → ReadsItems t u (items ++ item ∷ []) w → (x : UnreadLine) × ReadsItems t u items x × ReadsFirst t x item w
-split_last t u w [] item (v, first, is) = (u, refl, subst (ReadsFirst t u item) (sym is) first)
-split_last t u w (i ∷ items) item (v, first, others) =
-    let rest = split_last t v w items item others in (rest.0, (v, first, rest.1), rest.2)
+-- the items are read one part after the other
+items_split : (t : Table) (u w : UnreadLine) (xs ys : List Item) → ReadsItems t u (xs ++ ys) w → (x : UnreadLine) × ReadsItems t u xs x × ReadsItems t x ys w
+items_split t u w [] ys reads = (u, refl, reads)
+items_split t u w (x ∷ xs) ys (v, first, others) = let rest = items_split t v w xs ys others in (rest.0, (v, first, rest.1), rest.2)
 
 -- a positional is read by one call
 word_first : (t : Table) (u w : UnreadLine) (item : Item) (word : List ℕ) → item ≡ spec.positional word → ReadsFirst t u item w → NextStep u (steps.positional word) w
@@ -123,8 +124,17 @@ word_first t u w item word is (first_one name value v x k step takes) = absurd (
 word_first t u w item word is (first_optional name value v x k step takes) = absurd (let e : spec.option name value ≡ spec.positional word = is in cc)
 word_first t u w item word is (first_several name n values v x k step few takes) = absurd (let e : spec.many name values ≡ spec.positional word = is in cc)
 
+-- before the rest, the line u does not have the separator behind it, where that ends the front
+abbrev pub IsBefore : RestStart → UnreadLine → Type 0
+IsBefore start u = start ≡ separated → u.ended ≡ false
+
+-- where the front ends: as many positionals were read as there may be, or the separator comes
+abbrev pub IsEnd : RestStart → Declaration → List Parsed → UnreadLine → UnreadLine → Type 0
+IsEnd surplus d l there after = most d.positionals ≡ Some (positional_count l)
+IsEnd separated d l there after = (there.ended ≡ false) × (after.ended ≡ true) × IsWithin (positional_count l) (most d.positionals)
+
 -- the front is read, and then the first word of the rest
-pub record SplitRead (d : Declaration) (words : List (List ℕ)) (l : List Parsed) (word : List ℕ) (more : List (List ℕ)) : Type 0 where
+pub record SplitRead (start_of : RestStart) (d : Declaration) (words : List (List ℕ)) (l : List Parsed) (word : List ℕ) (more : List (List ℕ)) : Type 0 where
   pub items : List Item
   pub parsed : map (parsed_item d.options) items ≡ map (λ s. Some s) l
   pub there : UnreadLine
@@ -132,6 +142,7 @@ pub record SplitRead (d : Declaration) (words : List (List ℕ)) (l : List Parse
   pub after : UnreadLine
   pub step : NextStep there (steps.positional word) after
   pub left : after.words ≡ more
+  pub ends : IsEnd start_of d l there after
 
 some_word : (x z : UnreadLine) (word : List ℕ) → NextStep x (steps.positional word) z → x.words ≢ []
 some_word x z word step none = let read = word_read x z word step in no_words read.before z.words (sym read.words_are ∙ none)
@@ -140,8 +151,8 @@ some_word x z word step none = let read = word_read x z word step in no_words re
     no_words [] after is = let e : word ∷ after ≡ [] = is in cc
     no_words (w ∷ before) after is = let e : w ∷ (before ++ word ∷ after) ≡ [] = is in cc
 
-split_read : (d : Declaration) (words front : List (List ℕ)) (word : List ℕ) (more : List (List ℕ)) (split : IsSplit d words front word more) → SplitRead d words split.l word more
-split_read d words front word more split =
+surplus_read : (d : Declaration) (words front : List (List ℕ)) (word : List ℕ) (more : List (List ℕ)) (split : IsSplit surplus d words front word more) → SplitRead surplus d words split.l word more
+surplus_read d words front word more split =
     let t = table d.options in
     let e = d.short_equals in
     let short = front ++ word ∷ [] in
@@ -149,8 +160,8 @@ split_read d words front word more split =
     let items = own.0 in
     let read = spelled_read t e short (items ++ spec.positional word ∷ []) (subst (Spells t e short) own.1 split.begins.spelled) in
     let all = read.1 in
-    let parts = split_last t (start e short) all.there items (spec.positional word) all.reads in
-    let step = word_first t parts.0 all.there (spec.positional word) word refl parts.2 in
+    let parts = items_split t (start e short) all.there items (spec.positional word ∷ []) all.reads in
+    let step = word_first t parts.0 all.there (spec.positional word) word refl (subst (ReadsFirst t parts.0 (spec.positional word)) (sym parts.2.2) parts.2.1) in
     let cut = items_cut t (start e short) all.there (items ++ spec.positional word ∷ []) [] all.there.words refl all.reads in
     let none = no_words parts.0 all.there read.0 cut.before cut.words_are step (ends_so all.there read.0 all.ends) in
     let whole : short ++ more ≡ words = append_assoc front (word ∷ []) more ∙ sym split.words_are in
@@ -162,6 +173,7 @@ split_read d words front word more split =
       after = longer more all.there;
       step = step_more parts.0 all.there (steps.positional word) more (λ same. cc) step;
       left = ap (λ l. l ++ more) none;
+      ends = split.here;
     }
   where
     no_words : (u w v : UnreadLine) (before : List (List ℕ)) → front ++ word ∷ [] ≡ before ++ w.words → NextStep u (steps.positional word) w → EndsSo w v → w.words ≡ []
@@ -171,8 +183,82 @@ split_read d words front word more split =
         let same = (same_last before front (dash ∷ dash ∷ []) word (ap (λ l. before ++ l) (sym one) ∙ sym are)).1 in
         absurd (dashes_calm [] (subst (IsPlain false) (sym same) ((word_read u w word step).plain not)))
 
+-- the words before the separator are read, and no word is left
+record OpenRead (d : Declaration) (before : List (List ℕ)) (l : List Parsed) : Type 0 where
+  items : List Item
+  parsed : map (parsed_item d.options) items ≡ map (λ s. Some s) l
+  there : UnreadLine
+  reads : ReadsItems (table d.options) (start d.short_equals before) items there
+  none : there.tail ≡ no_tail
+  not : there.ended ≡ false
+  empty : there.words ≡ []
+
+abbrev dashes : List ℕ
+dashes = dash ∷ dash ∷ []
+
+open_read : (d : Declaration) (before : List (List ℕ)) (l : List Parsed) → Says d before l → Says d (before ++ dashes ∷ []) l → OpenRead d before l
+open_read d before l own with_separator =
+    let t = table d.options in
+    let e = d.short_equals in
+    let read = spelled_read t e before own.items own.spelled in
+    by read.0 read.1 (ends_so read.1.there read.0 read.1.ends)
+  where
+    t : Table
+    t = table d.options
+
+    s : UnreadLine
+    s = start d.short_equals before
+
+    -- a word after these is not read as a positional
+    never : (u v : UnreadLine) → ReadsItems t (longer (dashes ∷ []) s) own.items u → NextStep u (steps.positional dashes) v → ⊥
+    never u v reads step =
+        let line = items_line t (longer (dashes ∷ []) s) u own.items tt reads in
+        let later = some_reading t v (step_line calls.next u (steps.positional dashes) v line (inl step)) in
+        let reading = says_items t (longer (dashes ∷ []) s) u own.items reads later.0 (spec.positional dashes ∷ later.1) (says_positional t u v dashes (inl step) later.0 later.1 later.2) in
+        let other = shown_read t d.short_equals (before ++ dashes ∷ []) with_separator.items (spelled_shows t d.short_equals (before ++ dashes ∷ []) with_separator.items with_separator.spelled) in
+        let same = no_other_reading t (longer (dashes ∷ []) s) later.0 steps.end (own.items ++ spec.positional dashes ∷ later.1) with_separator.items reading other in
+        let a = same_count d.options own.items l own.parsed in
+        let b = same_count d.options with_separator.items l with_separator.parsed in
+        let c = ap count_items same.1 ∙ b in
+        let f = counts_append own.items (spec.positional dashes ∷ later.1) in omega (arith, a, c, f)
+
+    -- with the separator after them the items are read in the same way
+    longer_reads : (there : UnreadLine) → ReadsItems t s own.items there → ReadsItems t (longer (dashes ∷ []) s) own.items (longer (dashes ∷ []) there)
+    longer_reads there reads = items_calm t (dashes ∷ []) s there own.items tt (λ no_words no_left. dashes_calm []) reads
+
+    by : (after : UnreadLine) (all : ReadsAll t s own.items after) → EndsSo all.there after → OpenRead d before l
+    by after all (open_there none not empty is) = record { items = own.items; parsed = own.parsed; there = all.there; reads = all.reads; none = none; not = not; empty = empty }
+    by after all (ended_before none ended empty is) =
+        absurd (never (longer (dashes ∷ []) all.there) (record all.there { words = [] }) (longer_reads all.there all.reads) (after_separator none ended (word_left dashes [] (ap (λ l. l ++ dashes ∷ []) empty) refl refl)))
+    by after all (separator_last none not one is) =
+        absurd (never (longer (dashes ∷ []) all.there) (record all.there { words = []; ended = true }) (longer_reads all.there all.reads)
+        (next_word none not (reads_separator (dashes ∷ []) (ap (λ l. l ++ dashes ∷ []) one) (word_left dashes [] refl refl refl))))
+
+separated_read : (d : Declaration) (words front : List (List ℕ)) (word : List ℕ) (more : List (List ℕ)) (split : IsSplit separated d words front word more) → SplitRead separated d words split.l word more
+separated_read d words front word more split =
+    let t = table d.options in
+    let e = d.short_equals in
+    let here = split.here in
+    let read = open_read d here.before split.l here.says (subst (λ ws. Says d ws split.l) here.words_are split.says) in
+    let tail = dashes ∷ word ∷ more in
+    let whole : here.before ++ tail ≡ words = sym (split.words_are ∙ ap (λ ws. ws ++ word ∷ more) here.words_are ∙ append_assoc here.before (dashes ∷ []) (word ∷ more)) in
+    record {
+      items = read.items;
+      parsed = read.parsed;
+      there = longer tail read.there;
+      reads = subst (λ ws. ReadsItems t (start e ws) read.items (longer tail read.there)) whole (items_calm t tail (start e here.before) read.there read.items tt (λ no_words no_left. dashes_calm (word ∷ more)) read.reads);
+      after = record read.there { words = more; ended = true };
+      step = next_word read.none read.not (reads_separator (word ∷ more) (ap (λ l. l ++ tail) read.empty) (word_left word more refl refl refl));
+      left = refl;
+      ends = (read.not, refl, here.within);
+    }
+
+split_read : (start_of : RestStart) (d : Declaration) (words front : List (List ℕ)) (word : List ℕ) (more : List (List ℕ)) (split : IsSplit start_of d words front word more) → SplitRead start_of d words split.l word more
+split_read surplus d words front word more split = surplus_read d words front word more split
+split_read separated d words front word more split = separated_read d words front word more split
+
 -- the whole line is read so
-whole : (d : Declaration) (words : List (List ℕ)) (l : List Parsed) (word : List ℕ) (more : List (List ℕ)) (read : SplitRead d words l word more)
+whole : {start_of : RestStart} (d : Declaration) (words : List (List ℕ)) (l : List Parsed) (word : List ℕ) (more : List (List ℕ)) (read : SplitRead start_of d words l word more)
     → (final : Reply) × (m : List Item) × IsReading (table d.options) (start d.short_equals words) final (read.items ++ spec.positional word ∷ m)
 whole d words l word more read =
     let t = table d.options in
@@ -180,47 +266,97 @@ whole d words l word more read =
     let later = some_reading t read.after (subst (λ tail. TailFits tail read.after.last read.after.ended) (sym after.none) tt) in
     (later.0, later.1, says_items t (start d.short_equals words) read.there read.items read.reads later.0 (spec.positional word ∷ later.1) (says_positional t read.there read.after word (inl read.step) later.0 later.1 later.2))
 
--- ---- words have one rest
-
 same_word : (v w : List ℕ) → steps.positional v ≡ steps.positional w → v ≡ w
 same_word v w is = cc
 
-full_same : (d : Declaration) (words front front2 : List (List ℕ)) (word word2 : List ℕ) (more more2 : List (List ℕ)) (one : IsSplit d words front word more) (two : IsSplit d words front2 word2 more2) → positional_count one.l ≡ positional_count two.l
-full_same d words front front2 word word2 more more2 one two = some_same (positional_count one.l) (positional_count two.l) (sym one.full ∙ two.full)
-  where
-    some_same : (n k : ℕ) → Some n ≡ Some k → n ≡ k
-    some_same n k is = cc
+-- ---- what is read before the rest is of the front
 
-pub one_rest : (d : Declaration) (words front front2 : List (List ℕ)) (word word2 : List ℕ) (more more2 : List (List ℕ)) → IsSplit d words front word more → IsSplit d words front2 word2 more2 → (front ≡ front2) × (word ∷ more ≡ word2 ∷ more2)
-one_rest d words front front2 word word2 more more2 one two =
+-- these items are the front, or it goes on with others
+record InFront (front : List Item) (word : List ℕ) (read xs : List Item) : Type 0 where
+  k : List Item
+  m : List Item
+  are : front ≡ read ++ k
+  items_are : k ++ spec.positional word ∷ m ≡ xs
+
+-- at most as many positionals are among these as among those
+most_of : (limit : Option ℕ) (n k : ℕ) → limit ≡ Some n → IsWithin k limit → k ≤ n
+most_of None n k is within = absurd (let e : None ≡ Some n = is in cc)
+most_of (Some m) n k is within = let e : m ≡ n = (let f : Some m ≡ Some n = is in cc) in omega (arith, e, within)
+
+in_front : (start_of : RestStart) (d : Declaration) (words : List (List ℕ)) (l : List Parsed) (word : List ℕ) (more : List (List ℕ)) (own : SplitRead start_of d words l word more) (before : List Parsed) (u : UnreadLine) (read : ReadsUpTo d (start d.short_equals words) before u)
+    → IsBefore start_of u → (final : Reply) (xs : List Item) → IsReading (table d.options) u final xs → InFront own.items word read.items xs
+in_front start_of d words l word more own before u read yet final xs reading =
     let t = table d.options in
-    let first = split_read d words front word more one in
-    let second = split_read d words front2 word2 more2 two in
-    let a = whole d words one.l word more first in
-    let b = whole d words two.l word2 more2 second in
-    let same = no_other_reading t (start d.short_equals words) a.0 b.0 (first.items ++ spec.positional word ∷ a.1) (second.items ++ spec.positional word2 ∷ b.1) a.2 b.2 in
-    let items = same_items first.items second.items a.1 b.1 word word2 same.1
-    (same_count d.options first.items one.l first.parsed ∙ full_same d words front front2 word word2 more more2 one two ∙ sym (same_count d.options second.items two.l second.parsed)) in
-    let there = one_line_left t (start d.short_equals words) first.there second.there second.items (subst (λ xs. ReadsItems t (start d.short_equals words) xs first.there) items first.reads) second.reads in
+    let a = whole d words l word more own in
+    let same = no_other_reading t (start d.short_equals words) a.0 final (own.items ++ spec.positional word ∷ a.1) (read.items ++ xs) a.2 (says_items t (start d.short_equals words) u read.items read.read final xs reading) in
+    ⊎_elim (λ found. record { k = found.0; m = a.1; are = found.1; items_are = found.2 }) (λ longer. absurd (never start_of own yet longer.0 longer.1))
+    (begins_other own.items read.items a.1 xs word same.1)
+  where
+    never : (s : RestStart) (own : SplitRead s d words l word more) → IsBefore s u → (k : List Item) → read.items ≡ own.items ++ spec.positional word ∷ k → ⊥
+    never surplus own is_before k are =
+        let few = most_of (most d.positionals) (positional_count l) (positional_count before) own.ends read.within in
+        let one = same_count d.options own.items l own.parsed in
+        let two = same_count d.options read.items before read.parsed in
+        let three = ap count_items are ∙ counts_append own.items (spec.positional word ∷ k) in omega (arith, few, one, two, three)
+    never separated own is_before k are =
+        let t = table d.options in
+        let s = start d.short_equals words in
+        let parts = items_split t s u own.items (spec.positional word ∷ k) (subst (λ xs. ReadsItems t s xs u) are read.read) in
+        let there = one_line_left t s parts.0 own.there own.items parts.1 own.reads in
+        let first = parts.2 in
+        let step = subst (λ x. NextStep x (steps.positional word) first.0) there (word_first t parts.0 first.0 (spec.positional word) word refl first.1) in
+        let after = (next_same own.there (steps.positional word) (steps.positional word) first.0 own.after step own.step).1 in
+        let line = items_line t s first.0 (own.items ++ spec.positional word ∷ []) tt (one_more_item t s parts.0 first.0 own.items (spec.positional word) parts.1 first.1) in
+        true≢false (sym (items_stay t first.0 u k line first.2 (ap (λ (x : UnreadLine). x.ended) after ∙ own.ends.1)) ∙ is_before refl)
+
+-- the front is read so
+split_upto : {start_of : RestStart} (d : Declaration) (words : List (List ℕ)) (l : List Parsed) (word : List ℕ) (more : List (List ℕ)) (own : SplitRead start_of d words l word more) → ReadsUpTo d (start d.short_equals words) l own.there
+split_upto {start_of} d words l word more own = record {
+  items = own.items;
+  read = own.reads;
+  line = items_line (table d.options) (start d.short_equals words) own.there own.items tt own.reads;
+  parsed = own.parsed;
+  within = within start_of own;
+}
+  where
+    within : (s : RestStart) (own : SplitRead s d words l word more) → IsWithin (positional_count l) (most d.positionals)
+    within surplus own = all (most d.positionals) (positional_count l) own.ends
+      where
+        all : (limit : Option ℕ) (n : ℕ) → limit ≡ Some n → IsWithin n limit
+        all limit n is = rw is omega arith
+    within separated own = own.ends.2
+
+split_before : (start_of : RestStart) (d : Declaration) (words : List (List ℕ)) (l : List Parsed) (word : List ℕ) (more : List (List ℕ)) (own : SplitRead start_of d words l word more) → IsBefore start_of own.there
+split_before surplus d words l word more own = λ is. cc
+split_before separated d words l word more own = λ is. own.ends.0
+
+-- ---- words have one rest
+
+pub one_rest : {start_of : RestStart} (d : Declaration) (words front front2 : List (List ℕ)) (word word2 : List ℕ) (more more2 : List (List ℕ)) → IsSplit start_of d words front word more → IsSplit start_of d words front2 word2 more2 → (front ≡ front2) × (word ∷ more ≡ word2 ∷ more2)
+unfolding split_read split_upto
+one_rest {start_of} d words front front2 word word2 more more2 one two =
+    let t = table d.options in
+    let s = start d.short_equals words in
+    let first = split_read start_of d words front word more one in
+    let second = split_read start_of d words front2 word2 more2 two in
+    let a = rest_reading first in
+    let b = rest_reading second in
+    let there_in = in_front start_of d words two.l word2 more2 second one.l first.there (split_upto d words one.l word more first) (split_before start_of d words one.l word more first) a.0 a.1 a.2 in
+    let here_in = in_front start_of d words one.l word more first two.l second.there (split_upto d words two.l word2 more2 second) (split_before start_of d words two.l word2 more2 second) b.0 b.1 b.2 in
+    let items : first.items ≡ second.items = same_lists first.items second.items here_in.k there_in.k here_in.are there_in.are in
+    let there = one_line_left t s first.there second.there second.items (subst (λ xs. ReadsItems t s xs first.there) items first.reads) second.reads in
     let both = next_same second.there (steps.positional word) (steps.positional word2) first.after second.after (subst (λ u. NextStep u (steps.positional word) first.after) there first.step) second.step in
     let rest = ap (λ w. w ∷ more) (same_word word word2 both.0) ∙ ap (λ ws. word2 ∷ ws) (sym first.left ∙ ap (λ (v : UnreadLine). v.words) both.1 ∙ second.left) in
     (append_cancel_right front front2 (word2 ∷ more2) (ap (λ r. front ++ r) (sym rest) ∙ sym one.words_are ∙ two.words_are), rest)
-
--- words that are a front themselves have no rest
-pub front_alone : (d : Declaration) (words : List (List ℕ)) (l : List Parsed) → MeansFront d words l → HaveNoRest d words
-front_alone d words l means front word more split =
-    let t = table d.options in
-    let read = split_read d words front word more split in
-    let a = whole d words split.l word more read in
-    let reading = shown_read t d.short_equals words means.items (spelled_shows t d.short_equals words means.items means.spelled) in
-    let same = no_other_reading t (start d.short_equals words) a.0 steps.end (read.items ++ spec.positional word ∷ a.1) means.items a.2 reading in
-    let all = sym (same_count d.options means.items l means.parsed) ∙ ap count_items (sym same.1) ∙ counts_append read.items (spec.positional word ∷ a.1) in
-    let some = same_count d.options read.items split.l read.parsed in
-    within_limit (most d.positionals) (positional_count split.l) (positional_count l) split.full means.within (omega (arith, all, some))
   where
-    within_limit : (limit : Option ℕ) (n k : ℕ) → limit ≡ Some n → IsWithin k limit → n + 1 ≤ k → ⊥
-    within_limit None n k is within above = let e : None ≡ Some n = is in cc
-    within_limit (Some m) n k is within above = let e : m ≡ n = (let f : Some m ≡ Some n = is in cc) in omega (arith, e, within, above)
+    rest_reading : {l : List Parsed} {w : List ℕ} {ws : List (List ℕ)} (own : SplitRead start_of d words l w ws) → (final : Reply) × (xs : List Item) × IsReading (table d.options) own.there final xs
+    rest_reading own = some_reading (table d.options) own.there (items_line (table d.options) (start d.short_equals words) own.there own.items tt own.reads)
+
+    same_lists : (xs ys k j : List Item) → xs ≡ ys ++ k → ys ≡ xs ++ j → xs ≡ ys
+    same_lists xs ys [] j is too = is ∙ append-nil ys
+    same_lists xs ys (x ∷ k) j is too =
+        let a = ap length is ∙ length-append ys (x ∷ k) in
+        let b = ap length too ∙ length-append xs j in absurd (omega (arith, a, b))
 
 -- ---- what is read before the rest
 
@@ -231,37 +367,68 @@ pub record GoesOn (d : Declaration) (before l : List Parsed) (word : List ℕ) (
   pub items_are : k ++ spec.positional word ∷ m ≡ xs
   pub later : Later (parsed_item d.options) k before l
 
-goes_on : (d : Declaration) (words front : List (List ℕ)) (word : List ℕ) (more : List (List ℕ)) (part : IsSplit d words front word more) (before : List Parsed) (u : UnreadLine) → ReadsUpTo d (start d.short_equals words) before u
-    → (final : Reply) (xs : List Item) → IsReading (table d.options) u final xs → GoesOn d before part.l word xs
-goes_on d words front word more part before u read final xs reading =
-    let t = table d.options in
-    let own = split_read d words front word more part in
-    let a = whole d words part.l word more own in
-    let same = no_other_reading t (start d.short_equals words) a.0 final (own.items ++ spec.positional word ∷ a.1) (read.items ++ xs) a.2 (says_items t (start d.short_equals words) u read.items read.read final xs reading) in
-    let few = within_limit (most d.positionals) (positional_count part.l) (positional_count before) part.full read.within in
-    let one = same_count d.options own.items part.l own.parsed in
-    let two = same_count d.options read.items before read.parsed in
-    let k = inside own.items read.items a.1 xs word same.1 (omega (arith, few, one, two)) in
-    record { k = k.0; m = a.1; items_are = k.2; later = split (parsed_item d.options) read.items k.0 before part.l read.parsed (sym (ap (map (parsed_item d.options)) k.1) ∙ own.parsed) }
-  where
-    within_limit : (limit : Option ℕ) (n k : ℕ) → limit ≡ Some n → IsWithin k limit → k ≤ n
-    within_limit None n k is within = absurd (let e : None ≡ Some n = is in cc)
-    within_limit (Some m) n k is within = let e : m ≡ n = (let f : Some m ≡ Some n = is in cc) in omega (arith, e, within)
+goes_on : {start_of : RestStart} (d : Declaration) (words front : List (List ℕ)) (word : List ℕ) (more : List (List ℕ)) (part : IsSplit start_of d words front word more) (before : List Parsed) (u : UnreadLine) → ReadsUpTo d (start d.short_equals words) before u
+    → IsBefore start_of u → (final : Reply) (xs : List Item) → IsReading (table d.options) u final xs → GoesOn d before part.l word xs
+goes_on {start_of} d words front word more part before u read is_before final xs reading =
+    let own = split_read start_of d words front word more part in
+    let k = in_front start_of d words part.l word more own before u read is_before final xs reading in
+    record { k = k.k; m = k.m; items_are = k.items_are; later = split (parsed_item d.options) read.items k.k before part.l read.parsed (sym (ap (map (parsed_item d.options)) k.are) ∙ own.parsed) }
 
-pub front_begins : (d : Declaration) (words front : List (List ℕ)) (word : List ℕ) (more : List (List ℕ)) (part : IsSplit d words front word more) (before : List Parsed) (u : UnreadLine) → ReadsUpTo d (start d.short_equals words) before u
-    → (later : List Parsed) × (part.l ≡ before ++ later)
-front_begins d words front word more part before u read =
+no_items : (k m : List Item) (x : Item) → k ++ x ∷ m ≡ [] → ⊥
+no_items [] m x is = let e : x ∷ m ≡ [] = is in cc
+no_items (y ∷ k) m x is = let e : y ∷ (k ++ x ∷ m) ≡ [] = is in cc
+
+-- words that are read to their end have no rest
+pub ended_alone : {start_of : RestStart} (d : Declaration) (words : List (List ℕ)) (l : List Parsed) (u v : UnreadLine) → ReadsUpTo d (start d.short_equals words) l u → IsBefore start_of u → Next u steps.end v → HaveNoRest start_of d words
+ended_alone d words l u v read is_before next front word more part =
+    let on = goes_on d words front word more part l u read is_before steps.end [] (reads_last (table d.options) u v steps.end tt next) in no_items on.k on.m (spec.positional word) on.items_are
+
+-- words with one positional too many, and no separator before it, have none after a separator
+pub surplus_alone : (d : Declaration) (words : List (List ℕ)) (l : List Parsed) (u v : UnreadLine) (other : List ℕ) → ReadsUpTo d (start d.short_equals words) l u → Next u (steps.positional other) v → v.ended ≡ false → most d.positionals ≡ Some (positional_count l)
+    → HaveNoRest separated d words
+surplus_alone d words l u v other read next not full front word more part =
+    let t = table d.options in
+    let own = split_read separated d words front word more part in
+    let step = enough NextStep u (steps.positional other) v next (λ none. cc) in
+    let later = some_reading t v (step_line calls.next u (steps.positional other) v read.line next) in
+    let k = in_front separated d words part.l word more own l u read (λ _. open_too u.ended refl step) later.0 (spec.positional other ∷ later.1) (says_positional t u v other next later.0 later.1 later.2) in
+    by own step k.k k.m later.1 k.are k.items_are
+  where
+    open_too : (b : Bool) → u.ended ≡ b → NextStep u (steps.positional other) v → u.ended ≡ false
+    open_too false is step = is
+    open_too true is step = absurd (true≢false (sym (ended_stays u v other step is) ∙ not))
+
+    by : (own : SplitRead separated d words part.l word more) → NextStep u (steps.positional other) v → (k m xs : List Item) → own.items ≡ read.items ++ k → k ++ spec.positional word ∷ m ≡ spec.positional other ∷ xs → ⊥
+    by own step [] m xs are items_are =
+        let t = table d.options in
+        let s = start d.short_equals words in
+        let there = one_line_left t s own.there u read.items (subst (λ xs. ReadsItems t s xs own.there) (are ∙ append-nil read.items) own.reads) read.read in
+        let after = (next_same u (steps.positional word) (steps.positional other) own.after v (subst (λ x. NextStep x (steps.positional word) own.after) there own.step) step).1 in
+        true≢false (sym own.ends.1 ∙ ap (λ (x : UnreadLine). x.ended) after ∙ not)
+    by own step (x ∷ k) m xs are items_are =
+        let few = most_of (most d.positionals) (positional_count l) (positional_count part.l) full own.ends.2 in
+        let one = same_count d.options own.items part.l own.parsed in
+        let two = same_count d.options read.items l read.parsed in
+        let three = ap count_items are ∙ counts_append read.items (x ∷ k) in
+        let four = ap is_word (first_same x (spec.positional other) (k ++ spec.positional word ∷ m) xs items_are).0 in omega (arith, few, one, two, three, four)
+
+-- words that are a front themselves have no positional that is one too many
+pub front_alone : (d : Declaration) (words : List (List ℕ)) (l : List Parsed) → MeansFront d words l → HaveNoRest surplus d words
+front_alone d words l means =
+    let read = spelled_read (table d.options) d.short_equals words means.items means.spelled in
+    ended_alone {start_of = surplus} d words l read.1.there read.0
+    (record { items = means.items; read = read.1.reads; line = items_line (table d.options) (start d.short_equals words) read.1.there means.items tt read.1.reads; parsed = means.parsed; within = means.within }) (λ is. cc) (inl read.1.ends)
+
+pub front_begins : {start_of : RestStart} (d : Declaration) (words front : List (List ℕ)) (word : List ℕ) (more : List (List ℕ)) (part : IsSplit start_of d words front word more) (before : List Parsed) (u : UnreadLine) → ReadsUpTo d (start d.short_equals words) before u
+    → IsBefore start_of u → (later : List Parsed) × (part.l ≡ before ++ later)
+front_begins d words front word more part before u read is_before =
     let r = some_reading (table d.options) u read.line in
-    let on = goes_on d words front word more part before u read r.0 r.1 r.2 in (on.later.later, on.later.all_are)
+    let on = goes_on d words front word more part before u read is_before r.0 r.1 r.2 in (on.later.later, on.later.all_are)
 
 -- the first item is not a positional, so the front goes on with it
 first_option : (k m xs : List Item) (word : List ℕ) (x : Item) → is_word x ≡ 0 → k ++ spec.positional word ∷ m ≡ x ∷ xs → (k2 : List Item) × (k ≡ x ∷ k2) × (k2 ++ spec.positional word ∷ m ≡ xs)
 first_option [] m xs word x other is = absurd (let e = ap is_word (first_same (spec.positional word) x m xs is).0 in omega (arith, e, other))
 first_option (y ∷ k) m xs word x other is = let parts = first_same y x (k ++ spec.positional word ∷ m) xs is in (k, ap (λ z. z ∷ k) parts.0, parts.1)
-
-no_items : (k m : List Item) (x : Item) → k ++ x ∷ m ≡ [] → ⊥
-no_items [] m x is = let e : x ∷ m ≡ [] = is in cc
-no_items (y ∷ k) m x is = let e : y ∷ (k ++ x ∷ m) ≡ [] = is in cc
 
 of_name : (name : Name) (item : Item) → IsOf name item → is_word item ≡ 0
 of_name name (spec.positional word) is = absurd is
@@ -283,32 +450,73 @@ not_counted (legal.positional word) index is = absurd (false≢true is)
 not_counted (legal.option i value) index is = refl
 not_counted (legal.several i values) index is = refl
 
+-- an option is read before the separator
+first_item_open : (t : Table) (u w : UnreadLine) (item : Item) → is_word item ≡ 0 → IsLine u → ReadsFirst t u item w → u.ended ≡ false
+first_item_open t u w item none line (first_positional word v step) = absurd (omega (arith, none))
+first_item_open t u w item none line (first_flag name v k step) = named_open u w name line step
+first_item_open t u w item none line (first_one name word v x k step takes) = named_open u v name line step
+first_item_open t u w item none line (first_optional name word v x k step takes) = named_open u v name line step
+first_item_open t u w item none line (first_several name n values v x k step few takes) = named_open u v name line step
+
+-- where an option was read last, the separator was not read
+pub last_open : (d : Declaration) (s u : UnreadLine) (before : List Parsed) (last : Parsed) → IsLine s → ReadsUpTo d s (before ++ last ∷ []) u → counts last ≡ 0 → u.ended ≡ false
+last_open d s u before last line read none = by read.items read.read (last_item (parsed_item d.options) read.items before last read.parsed)
+  where
+    by : (items : List Item) → ReadsItems (table d.options) s items u → (front : List Item) × (x : Item) × (items ≡ front ++ x ∷ []) × (parsed_item d.options x ≡ Some last) → u.ended ≡ false
+    by items reads (front, x, are, is) =
+        let t = table d.options in
+        let parts = items_split t s u front (x ∷ []) (subst (λ xs. ReadsItems t s xs u) are reads) in
+        let there = items_line t s parts.0 front line parts.1 in
+        ap (λ (y : UnreadLine). y.ended) parts.2.2 ∙ option_open t parts.0 parts.2.0 x there parts.2.1 (λ word same. let f : is_word (spec.positional word) ≡ 0 = sym (ap is_word same) ∙ word_counts d.options x last is ∙ none in omega (arith, f))
+
 -- if an option has this mistake, the words have no rest after options that accept their values
-pub mistaken : (d : Declaration) (words front : List (List ℕ)) (word : List ℕ) (more : List (List ℕ)) (part : IsSplit d words front word more) (before : List Parsed) (u : UnreadLine) (mistake : Mistake) → ReadsUpTo d (start d.short_equals words) before u
+pub mistaken : {start_of : RestStart} (d : Declaration) (words front : List (List ℕ)) (word : List ℕ) (more : List (List ℕ)) (part : IsSplit start_of d words front word more) (before : List Parsed) (u : UnreadLine) (mistake : Mistake) → ReadsUpTo d (start d.short_equals words) before u
     → IsOfOption mistake → Stops d before u mistake → ((index : ℕ) (value : List ℕ) → mistake ≡ invalid_value index value → are_accepted d.options part.l ≡ true) → ⊥
-mistaken d words front word more part before u mistake read of (not_declared name v step none) accepted =
-    let r = option_reading (table d.options) u v name (step_line next u (option_reply name) v read.line step) step in
+mistaken {start_of} d words front word more part before u mistake read of (not_declared name v step none) accepted =
+    let r = option_reading (table d.options) u v name (step_line calls.next u (option_reply name) v read.line step) step in
     let item = item_after name r.1 in
-    let on = goes_on d words front word more part before u read r.0 (item ∷ items_of_replies r.1) r.2 in
+    let on = goes_on d words front word more part before u read (λ _. named_open u v name read.line step) r.0 (item ∷ items_of_replies r.1) r.2 in
     let k = first_option on.k on.m (items_of_replies r.1) word item (of_name name item (item_of name r.1)) on.items_are in
     first_none (parsed_item d.options) item k.0 on.later.later (undeclared d.options name item (item_of name r.1) none) (sym (ap (map (parsed_item d.options)) k.1) ∙ on.later.are)
-mistaken d words front word more part before u mistake read of (value_of_flag option value v step) accepted =
-    let on = goes_on d words front word more part before u read (steps.unexpected option value) [] (reads_last (table d.options) u v (steps.unexpected option value) tt step) in
+mistaken {start_of} d words front word more part before u mistake read of (value_of_flag option value v step) accepted =
+    let on = goes_on d words front word more part before u read
+    (λ _. open_before u v (steps.unexpected option value) read.line (enough NextStep u (steps.unexpected option value) v step (λ none. cc)) (λ x is. cc) (λ is. cc)) (steps.unexpected option value) [] (reads_last (table d.options) u v (steps.unexpected option value) tt step) in
     no_items on.k on.m (spec.positional word) on.items_are
-mistaken d words front word more part before u mistake read of (no_value name index option call v w step found due takes) accepted =
+mistaken {start_of} d words front word more part before u mistake read of (no_value name index option call v w step found due takes) accepted =
     let t = table d.options in
-    let on = goes_on d words front word more part before u read (steps.missing (Some option)) _ (reads_refused t u v w name (kind t name) call (steps.missing (Some option)) refl due tt step takes) in
+    let on = goes_on d words front word more part before u read (λ _. named_open u v name read.line step) (steps.missing (Some option)) _ (reads_refused t u v w name (kind t name) call (steps.missing (Some option)) refl due tt step takes) in
     let k = first_option on.k on.m [] word (spec.option name None) refl (on.items_are ∙ items_one name (Some option)) in
     no_items k.0 on.m (spec.positional word) k.2
-mistaken d words front word more part before u mistake read of (not_accepted s index value v given is refused) accepted =
+mistaken {start_of} d words front word more part before u mistake read of (not_accepted s index value v given is refused) accepted =
     let t = table d.options in
     let one = one_item d.options given.items s given.parsed in
     let r = some_reading t v given.line in
-    let on = goes_on d words front word more part before u read r.0 (given.items ++ r.1) (says_items t u v given.items given.read r.0 r.1 r.2) in
-    let k = first_option on.k on.m r.1 word one.0 (word_counts d.options one.0 s one.2 ∙ not_counted s index is) (on.items_are ∙ ap (λ l. l ++ r.1) one.1) in
+    let reads = subst (λ xs. ReadsItems t u xs v) one.1 given.read in
+    let none = word_counts d.options one.0 s one.2 ∙ not_counted s index is in
+    let on = goes_on d words front word more part before u read (λ _. first_item_open t u reads.0 one.0 none read.line reads.1) r.0 (given.items ++ r.1) (says_items t u v given.items given.read r.0 r.1 r.2) in
+    let k = first_option on.k on.m r.1 word one.0 none (on.items_are ∙ ap (λ l. l ++ r.1) one.1) in
     let first = first_is (parsed_item d.options) one.0 s k.0 on.later.later one.2 (sym (ap (map (parsed_item d.options)) k.1) ∙ on.later.are) in
     not_refused d.options before s first.0 value (subst (λ l. are_accepted d.options l ≡ true) (on.later.all_are ∙ ap (λ l. before ++ l) first.1) (accepted index value refl)) refused
-mistaken d words front word more part before u mistake read of (one_too_many other v step limit) accepted = of
-mistaken d words front word more part before u mistake read of (too_few v step few) accepted = of
-mistaken d words front word more part before u mistake read of (not_taken index other v step enough unfit) accepted = of
-mistaken d words front word more part before u mistake read of (not_complete index v step enough taken first) accepted = of
+mistaken {start_of} d words front word more part before u mistake read of (one_too_many other v step limit) accepted = of
+mistaken {start_of} d words front word more part before u mistake read of (too_few v step few) accepted = of
+mistaken {start_of} d words front word more part before u mistake read of (not_taken index other v step enough unfit) accepted = of
+mistaken {start_of} d words front word more part before u mistake read of (not_complete index v step enough taken first) accepted = of
+
+-- ---- words that the separator ends
+
+-- it is the only word that is left where they are read
+pub separator_left : (d : Declaration) (words : List (List ℕ)) (l m : List Parsed) (u v : UnreadLine) → Says d words l → EndsSeparated d words l → ReadsUpTo d (start d.short_equals words) m u → Next u steps.end v → u.words ≡ dashes ∷ []
+separator_left d words l m u v says ends upto next =
+    let t = table d.options in
+    let s = start d.short_equals words in
+    let read = open_read d ends.before l ends.says (subst (λ ws. Says d ws l) ends.words_are says) in
+    let there = longer (dashes ∷ []) read.there in
+    let reads = subst (λ ws. ReadsItems t (start d.short_equals ws) read.items there) (sym ends.words_are) (items_calm t (dashes ∷ []) (start d.short_equals ends.before) read.there read.items tt (λ no_words no_left. dashes_calm []) read.reads) in
+    let left = ap (λ ws. ws ++ dashes ∷ []) read.empty in
+    let last = next_word read.none read.not (reads_separator [] left (no_word_left refl refl refl)) in
+    let same = no_other_reading t s steps.end steps.end (read.items ++ []) (upto.items ++ [])
+    (says_items t s there read.items reads steps.end [] (reads_last t there (record there { words = []; ended = true }) steps.end tt (inl last)))
+    (says_items t s u upto.items upto.read steps.end [] (reads_last t u v steps.end tt next)) in
+    let items = sym (append-nil read.items) ∙ same.1 ∙ append-nil upto.items in
+    let here = one_line_left t s there u upto.items (subst (λ xs. ReadsItems t s xs there) items reads) upto.read in
+    sym (ap (λ (x : UnreadLine). x.words) here) ∙ left

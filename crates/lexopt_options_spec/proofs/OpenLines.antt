@@ -1,9 +1,11 @@
 -- Lines after which an option can come.
-use Rattle.std.proofs.Common.{◌≡◌, ◌≢◌, ℕ, Bool, false, List, [], ◌∷◌, ◌++◌, map, refl, sym, ap, subst, ◌∙◌, append_assoc}
-use Rattle.lexopt_spec.specs.UnreadLine.{dash, IsPlain, IsNormalIn, IsPlainFront}
+use Rattle.std.proofs.Common.{◌≡◌, ◌≢◌, ℕ, Bool, false, List, [], ◌∷◌, ◌++◌, map, sym, ap, subst, ◌∙◌, append_assoc}
+use Rattle.std.proofs.lemmas.List.{map-append}
+use Rattle.lexopt_spec.specs.UnreadLine.{dash, IsPlain, IsNormalIn}
 use Rattle.lexopt_line_spec.specs.Table.{Name, short, long, Item, positional, Kind, flag, one, optional, several, kind, Table}
 use Rattle.lexopt_line_spec.specs.Spelling as spelling
 use Rattle.lexopt_line_spec.specs.Spelling.{Letters, After, Completes, no_value, no_optional, attached_optional, joined_optional, joined_several, attached_several, several_words, attached_value, joined_value, next_word, Cluster, flag_first, last_option, Group, cluster, Line, no_words, plain_word, group, separator}
+use Rattle.lexopt_options_spec.proofs.Growing.{front_more}
 
 -- the separator
 abbrev pub dashes : List ℕ
@@ -22,17 +24,6 @@ pub data OpenLine (letters : Letters) (t : Table) (short_equals : Bool) : List (
 same_more : (l m more : List (List ℕ)) → l ≡ m → l ++ more ≡ m ++ more
 same_more l m more is = ap (λ x. x ++ more) is
 
-front_more : (words front left more : List (List ℕ)) → (left ≡ [] → ¬ IsNormalIn false more) → IsPlainFront false words front left → IsPlainFront false (words ++ more) front (left ++ more)
-front_more words front left more calm is = record {
-  words_are = same_more words (front ++ left) more is.words_are ∙ append_assoc front left more;
-  plain = is.plain;
-  longest = longest left calm is.longest;
-}
-  where
-    longest : (left : List (List ℕ)) → (left ≡ [] → ¬ IsNormalIn false more) → ¬ IsNormalIn false left → ¬ IsNormalIn false (left ++ more)
-    longest [] calm none = calm refl
-    longest (w ∷ ws) calm none = none
-
 completes_more : (k : Kind) (name : Name) (after : After) (words left : List (List ℕ)) (item : Item) (more : List (List ℕ)) → (left ≡ [] → ¬ IsNormalIn false more) → Completes k name after words item left
     → Completes k name after (words ++ more) item (left ++ more)
 completes_more flag name after words left item more calm (no_value a i l) = no_value a i (same_more left words more l)
@@ -43,8 +34,8 @@ completes_more optional name after words left item more calm (no_optional a i l)
 completes_more optional name after words left item more calm (attached_optional v a i l) = attached_optional v a i (same_more left words more l)
 completes_more optional name after words left item more calm (joined_optional v a i l) = joined_optional v a i (same_more left words more l)
 completes_more several name after words left item more calm (joined_several v a i l) = joined_several v a i (same_more left words more l)
-completes_more several name after words left item more calm (attached_several v front a is i) = attached_several v front a (front_more words front left more calm is) i
-completes_more several name after words left item more calm (several_words front a is some i) = several_words front a (front_more words front left more calm is) some i
+completes_more several name after words left item more calm (attached_several v front a is i) = attached_several v front a (front_more false words front left more calm is) i
+completes_more several name after words left item more calm (several_words front a is some i) = several_words front a (front_more false words front left more calm is) some i
 
 cluster_more : (letters : Letters) (t : Table) (short_equals : Bool) (words left : List (List ℕ)) (bytes : List ℕ) (items : List Item) (more : List (List ℕ)) → (left ≡ [] → ¬ IsNormalIn false more)
     → Cluster letters t short_equals words left bytes items → Cluster letters t short_equals (words ++ more) (left ++ more) bytes items
@@ -73,10 +64,6 @@ continues letters t short_equals words more all items calm (group_first ws left 
 
 -- ---- a line with a separator
 
-positionals_append : (xs ys : List (List ℕ)) → map positional (xs ++ ys) ≡ map positional xs ++ map positional ys
-positionals_append [] ys = refl
-positionals_append (x ∷ xs) ys = ap (λ l. positional x ∷ l) (positionals_append xs ys)
-
 -- a line has no separator, or all words that come after it are positionals
 pub data Parts (letters : Letters) (t : Table) (short_equals : Bool) (words : List (List ℕ)) (items : List Item) : Type 0 where
   open_to_the_end : OpenLine letters t short_equals words items → Parts letters t short_equals words items
@@ -102,4 +89,4 @@ parts letters t short_equals words items (group ws left front others first line)
         subst (Line letters t short_equals (ws ++ more)) (sym (append_assoc front others (map positional more)))
         (group (ws ++ more) (left ++ more) front (others ++ map positional more) (group_more letters t short_equals ws front left more (λ none. absurd (some none)) first) (later more)))
 parts letters t short_equals words items (separator ws) = past_separator (λ none. let e : dashes ∷ ws ≡ [] = none in cc)
-    (λ more. subst (Line letters t short_equals (dashes ∷ (ws ++ more))) (positionals_append ws more) (separator (ws ++ more)))
+    (λ more. subst (Line letters t short_equals (dashes ∷ (ws ++ more))) (map-append positional ws more) (separator (ws ++ more)))

@@ -18,12 +18,12 @@ use Rattle.lexopt_line_spec.proofs.OptionalLaw.{none_tail}
 use Rattle.lexopt_line_spec.proofs.RunAccounts.{step_line}
 use Rattle.lexopt_options_spec.specs.Declaration.{Declaration, index_of, is_sound, table}
 use Rattle.lexopt_options_spec.specs.Legal as legal
-use Rattle.lexopt_options_spec.specs.Legal.{Parsed, MeansFront, IsWithin, most, parsed_item, positional_count}
+use Rattle.lexopt_options_spec.specs.Legal.{IsWithin, Parsed, most, parsed_item, positional_count}
 use Rattle.lexopt_options_spec.specs.States as states
 use Rattle.lexopt_options_spec.specs.States.{Leaves, LeadsNowhere, Says, leaves_anything, leaves_due, leaves_first, leaves_further, leaves_ended, state_at_end}
 use Rattle.lexopt_options_spec.specs.Stops.{Mistake, ReadsUpTo, Stops, missing_value, no_value, not_declared, one_too_many, unexpected_argument, unexpected_value, unknown_option, value_of_flag}
 use Rattle.lexopt_options_spec.proofs.Cuts.{enough}
-use Rattle.lexopt_options_spec.proofs.Fronts.{no_front, nothing_read}
+use Rattle.lexopt_options_spec.proofs.Fronts.{ComesTo, StopsEarly, no_front, nothing_read}
 use Rattle.lexopt_options_spec.proofs.Growing.{longer, Calm, Grows, EndsSo, ended_before, open_there, separator_last, ends_so, adds_word, calm_before, first_taken, lack_more, no_option, not_normal_more, only_end, option_before_separator, option_more, step_more, takes_next}
 use Rattle.lexopt_options_spec.proofs.Rests.{ends_here, ends_reading, reading_spells}
 use Rattle.lexopt_options_spec.proofs.Lists.{joined}
@@ -198,42 +198,22 @@ end_leaves d words l o u v sound at next = by (ends_so u v step)
 
 -- ---- a value that an option lacks
 
--- the reading of the words stops at this mistake, and so does that of the words with one more
-record StopsSo (d : Declaration) (s : UnreadLine) (l : List Parsed) (u : UnreadLine) (why : Mistake) : Type 0 where
-  line : IsLine u
-  within : IsWithin (positional_count l) (most d.positionals)
-  reads : ReadsAs d s l u
-  stops : Stops d l u why
+here : {d : Declaration} {words : List (List ℕ)} {u : UnreadLine} {l : List Parsed} {o : Option ℕ} {why : Mistake} → Reached d (start d.short_equals words) l o u → Stops d l u why → ComesTo d words l why
+here {d} {words} {u} at stops = record { there = u; read = at.upto; stops = stops }
 
--- it is a mistake before the end of a line, and not a value that is not accepted
-abbrev StopsEarly : Mistake → Type 0
-StopsEarly (unknown_option name left) = Unit {0}
-StopsEarly (unexpected_value option value) = Unit {0}
-StopsEarly (missing_value index option) = Unit {0}
-StopsEarly (unexpected_argument word) = Unit {0}
-StopsEarly why = ⊥
-
-means_nothing : (d : Declaration) (words : List (List ℕ)) (l : List Parsed) (u : UnreadLine) (why : Mistake) → StopsEarly why → StopsSo d (start d.short_equals words) l u why → (m : List Parsed) → MeansFront d words m → ⊥
-means_nothing d words l u why early so m means =
-    no_front d words l why (record {
-      there = u;
-      read = record { items = so.reads.items; read = so.reads.reads; line = so.line; parsed = so.reads.parsed; within = so.within };
-      stops = so.stops;
-    })
-    (λ count is. subst StopsEarly is early) (λ index is. subst StopsEarly is early) (λ index value is. subst StopsEarly is early) (λ index word is. subst StopsEarly is early) m means
-
-here : {d : Declaration} {s u : UnreadLine} {l : List Parsed} {o : Option ℕ} {why : Mistake} → Reached d s l o u → Stops d l u why → StopsSo d s l u why
-here at stops = record { line = at.upto.line; within = at.upto.within; reads = up_to_as at.upto; stops = stops }
-
-later : {d : Declaration} {s u : UnreadLine} {l : List Parsed} {o : Option ℕ} {why : Mistake} (tail : List (List ℕ)) → Reached d s l o u → Calm u tail → Stops d l (longer tail u) why → StopsSo d (longer tail s) l (longer tail u) why
-later tail at calm stops = record { line = at.upto.line; within = at.upto.within; reads = at.calm tail calm; stops = stops }
+-- the same with more words
+later : {d : Declaration} {words : List (List ℕ)} {u : UnreadLine} {l : List Parsed} {o : Option ℕ} {why : Mistake} (tail : List (List ℕ)) → Reached d (start d.short_equals words) l o u → Calm u tail → Stops d l (longer tail u) why
+    → ComesTo d (words ++ tail) l why
+later {d} {words} {u} tail at calm stops =
+    let reads = at.calm tail calm in
+    record { there = longer tail u; read = record { items = reads.items; read = reads.reads; line = at.upto.line; parsed = reads.parsed; within = at.upto.within }; stops = stops }
 
 -- nothing that begins with these words is a line, since the reading stops here whatever comes after
 pub leads_nowhere : (d : Declaration) (words : List (List ℕ)) (l : List Parsed) (o : Option ℕ) (u : UnreadLine) (why : Mistake) → StopsEarly why → Reached d (start d.short_equals words) l o u
     → ((tail : List (List ℕ)) → Calm u tail) → Stops d l u why → ((tail : List (List ℕ)) → Stops d l (longer tail u) why) → LeadsNowhere d words
 leads_nowhere d words l o u why early at calm stops more = record {
-  here = λ m means. means_nothing d words l u why early (here at stops) m means;
-  with_more = λ w m means. means_nothing d (words ++ w ∷ []) l (longer (w ∷ []) u) why early (later (w ∷ []) at (calm (w ∷ [])) (more (w ∷ []))) m means;
+  here = λ m means. no_front d words l why (here at stops) early m means;
+  with_more = λ w m means. no_front d (words ++ w ∷ []) l why (later (w ∷ []) at (calm (w ∷ [])) (more (w ∷ []))) early m means;
 }
 
 calm_at_option : (u v : UnreadLine) (name : Name) → Next u (option_reply name) v → (tail : List (List ℕ)) → Calm u tail
@@ -279,7 +259,7 @@ pub value_due : (d : Declaration) (words : List (List ℕ)) (l : List Parsed) (o
 value_due d words l o u v name index sound at next found k none empty = leaves_due index
     (λ m means.
     let stops = value_stops d l u v name index next found k none empty in
-    means_nothing d words l u (missing_value index stops.0) tt (here at stops.1) m means)
+    no_front d words l (missing_value index stops.0) (here at stops.1) tt m means)
     (λ p.
     says sound
     (one_more (at.calm (p ∷ []) (calm_at_option u v name next (p ∷ [])))
@@ -291,7 +271,7 @@ pub first_due : (d : Declaration) (words : List (List ℕ)) (l : List Parsed) (o
 first_due d words l o u v name index sound at next found k none empty = leaves_first index
     (λ m means.
     let stops = values_stop d l u v name index next found k none (subst (λ ws. ¬ IsNormalIn v.ended ws) (sym empty) (λ normal. normal)) in
-    means_nothing d words l u (missing_value index stops.0) tt (here at stops.1) m means)
+    no_front d words l (missing_value index stops.0) (here at stops.1) tt m means)
     (λ p plain.
     says sound
     (one_more (at.calm (p ∷ []) (calm_at_option u v name next (p ∷ [])))
@@ -301,7 +281,7 @@ first_due d words l o u v name index sound at next found k none empty = leaves_f
     (λ p m other means.
     let normal : ¬ IsNormalIn v.ended (v.words ++ p ∷ []) = subst (λ ws. ¬ IsNormalIn v.ended ws) (sym (appended v.words (p ∷ []) empty)) (subst (λ b. ¬ IsPlain b p) (sym before) other) in
     let stops = lacks d l (longer (p ∷ []) u) (longer (p ∷ []) v) (longer (p ∷ []) v) name index (calls.values 1) (several_due d name 1 k) (option_more u v name (p ∷ []) next) found (inl (lack_more v 1 (p ∷ []) none normal)) in
-    means_nothing d (words ++ p ∷ []) l (longer (p ∷ []) u) (missing_value index stops.0) tt (later (p ∷ []) at (calm_at_option u v name next (p ∷ [])) stops.1) m means)
+    no_front d (words ++ p ∷ []) l (missing_value index stops.0) (later (p ∷ []) at (calm_at_option u v name next (p ∷ [])) stops.1) tt m means)
   where
     before : v.ended ≡ false
     before = option_before_separator u v name at.upto.line next
@@ -311,11 +291,11 @@ pub values_nowhere : (d : Declaration) (words : List (List ℕ)) (l : List Parse
 values_nowhere d words l o u v name index at next found k none normal some = record {
   here = λ m means.
       let stops = values_stop d l u v name index next found k none normal in
-      means_nothing d words l u (missing_value index stops.0) tt (here at stops.1) m means;
+      no_front d words l (missing_value index stops.0) (here at stops.1) tt m means;
   with_more = λ p m means.
       let stops = lacks d l (longer (p ∷ []) u) (longer (p ∷ []) v) (longer (p ∷ []) v) name index (calls.values 1) (several_due d name 1 k) (option_more u v name (p ∷ []) next) found
       (inl (lack_more v 1 (p ∷ []) none (not_normal_more v.ended v.words (p ∷ []) (λ empty. absurd (some empty)) normal))) in
-      means_nothing d (words ++ p ∷ []) l (longer (p ∷ []) u) (missing_value index stops.0) tt (later (p ∷ []) at (calm_at_option u v name next (p ∷ [])) stops.1) m means;
+      no_front d (words ++ p ∷ []) l (missing_value index stops.0) (later (p ∷ []) at (calm_at_option u v name next (p ∷ [])) stops.1) tt m means;
 }
 
 -- ---- a mistake before the end

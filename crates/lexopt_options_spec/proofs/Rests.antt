@@ -14,7 +14,7 @@ use Rattle.lexopt_line_spec.proofs.ReadingSteps.{says_positional, reads_last}
 use Rattle.lexopt_line_spec.proofs.WholeLines.{said_shows}
 use Rattle.lexopt_options_spec.specs.Declaration.{Declaration, is_sound, table}
 use Rattle.lexopt_options_spec.specs.Legal.{Parsed, most, positional, positional_count, parsed_item}
-use Rattle.lexopt_options_spec.specs.Rest.{IsSplit}
+use Rattle.lexopt_options_spec.specs.Rest.{CanBegin, IsSplit, RestStart, separated, surplus}
 use Rattle.lexopt_options_spec.specs.States.{Says}
 use Rattle.lexopt_options_spec.specs.Stops.{ReadsUpTo}
 use Rattle.lexopt_options_spec.proofs.Cuts.{enough, items_cut, step_cut, with_words}
@@ -34,6 +34,7 @@ pub record WordRead (u : UnreadLine) (word : List ℕ) (w : UnreadLine) : Type 0
   pub ends : NextStep (with_words before u) steps.end after
   pub none : w.tail ≡ no_tail
   pub plain : w.ended ≡ false → IsPlain false word
+  pub past : u.ended ≡ false → w.ended ≡ true → (u.tail ≡ no_tail) × (before ≡ (dash ∷ dash ∷ []) ∷ [])
 
 word_is : (w word : List ℕ) → steps.positional word ≡ steps.positional w → w ≡ word
 word_is w word is = cc
@@ -50,6 +51,7 @@ word_read u w word (after_separator none ended (word_left x ws some r_is after))
   ends = ends_here (with_words [] u) true ended none refl;
   none = ap (λ (v : UnreadLine). v.tail) after ∙ none;
   plain = λ before. absurd (true≢false (sym ended ∙ sym (ap (λ (v : UnreadLine). v.ended) after) ∙ before));
+  past = λ not. absurd (true≢false (sym ended ∙ not));
 }
 word_read u w word (next_word none not (no_word empty r_is after)) = absurd (let e : steps.positional word ≡ steps.end = r_is in cc)
 word_read u w word (next_word none not (reads_separator ws some (no_word_left empty r_is after))) = absurd (let e : steps.positional word ≡ steps.end = r_is in cc)
@@ -60,6 +62,7 @@ word_read u w word (next_word none not (reads_separator ws some (word_left x xs 
   ends = next_word none not (reads_separator [] refl (no_word_left refl refl refl));
   none = ap (λ (v : UnreadLine). v.tail) after ∙ none;
   plain = λ before. absurd (true≢false (sym (ap (λ (v : UnreadLine). v.ended) after) ∙ before));
+  past = λ not ended. (none, refl);
 }
 word_read u w word (next_word none not (reads_long text name tail ws some other long r_is after)) = absurd (let e : steps.positional word ≡ steps.long _ = r_is in cc)
 word_read u w word (next_word none not (reads_cluster bytes ws some other reads)) = absurd (let e : steps.positional word ≡ steps.short _ = reads.reply_is in cc)
@@ -70,6 +73,7 @@ word_read u w word (next_word none not (reads_positional x ws some plain r_is af
   ends = ends_here (with_words [] u) false not none refl;
   none = ap (λ (v : UnreadLine). v.tail) after ∙ none;
   plain = λ before. subst (IsPlain false) (word_is x word r_is) plain;
+  past = λ not ended. absurd (true≢false (sym ended ∙ ap (λ (v : UnreadLine). v.ended) after ∙ not));
 }
 
 -- words whose reading reaches the end spell what was read
@@ -82,18 +86,38 @@ pub ends_reading : (t : Table) (u v w : UnreadLine) (items : List Item) → Read
 ends_reading t u v w items reads step =
     subst (IsReading t u steps.end) (append-nil items) (says_items t u v items reads steps.end [] (reads_last t v w steps.end tt (inl step)))
 
--- the front of a line whose reading came to this positional, which is one too many
-pub record FrontRead (d : Declaration) (words : List (List ℕ)) (l : List Parsed) (word : List ℕ) (more : List (List ℕ)) : Type 0 where
+-- what tells that a rest begins with a positional, which is read at the line u and leaves the line w
+abbrev pub Starts : RestStart → Declaration → List Parsed → UnreadLine → UnreadLine → Type 0
+Starts surplus d l u w = most d.positionals ≡ Some (positional_count l)
+Starts separated d l u w = (u.ended ≡ false) × (w.ended ≡ true)
+
+-- the front of a line whose reading came to this positional, with which a rest begins
+pub record FrontRead (begins : RestStart) (d : Declaration) (words : List (List ℕ)) (l : List Parsed) (word : List ℕ) (more : List (List ℕ)) : Type 0 where
   pub front : List (List ℕ)
-  pub split : IsSplit d words front word more
+  pub split : IsSplit begins d words front word more
   pub there : UnreadLine
   pub read : ReadsUpTo d (start d.short_equals front) l there
   pub after : UnreadLine
   pub ends : Next there steps.end after
 
-pub front_read : (d : Declaration) → is_sound d.options ≡ true → (words : List (List ℕ)) (l : List Parsed) (u w : UnreadLine) (word : List ℕ) → ReadsUpTo d (start d.short_equals words) l u → most d.positionals ≡ Some (positional_count l)
-    → Next u (steps.positional word) w → FrontRead d words l word w.words
-front_read d sound words l u w word read full next =
+-- before the positional, the words are read to their end
+ends_before : (d : Declaration) → is_sound d.options ≡ true → (words before left : List (List ℕ)) (l : List Parsed) (u : UnreadLine) (items : List Item) → ReadsItems (table d.options) (start d.short_equals before) items (with_words left u)
+    → map (parsed_item d.options) items ≡ map (λ s. Some s) l → (after : UnreadLine) → NextStep (with_words left u) steps.end after → Says d before l
+ends_before d sound words before left l u items reads parsed after ends = record {
+  items = items;
+  spelled = reading_spells d sound before items l (ends_reading (table d.options) (start d.short_equals before) (with_words left u) after items reads ends) parsed;
+  parsed = parsed;
+}
+
+-- the words before those that are left, if no value is pending
+pub before_here : (d : Declaration) → is_sound d.options ≡ true → (words : List (List ℕ)) (l : List Parsed) (u : UnreadLine) → ReadsUpTo d (start d.short_equals words) l u → u.tail ≡ no_tail → (before : List (List ℕ)) × (words ≡ before ++ u.words) × Says d before l
+before_here d sound words l u read none =
+    let own = items_cut (table d.options) (start d.short_equals words) u read.items [] u.words refl read.read in
+    (own.before, own.words_are, ends_before d sound words own.before [] l u read.items own.holds read.parsed (with_words [] u) (ends_here (with_words [] u) u.ended refl none refl))
+
+pub front_read : (begins : RestStart) (d : Declaration) → is_sound d.options ≡ true → (words : List (List ℕ)) (l : List Parsed) (u w : UnreadLine) (word : List ℕ) → ReadsUpTo d (start d.short_equals words) l u → Starts begins d l u w
+    → Next u (steps.positional word) w → FrontRead begins d words l word w.words
+front_read begins d sound words l u w word read starts next =
     let t = table d.options in
     let step = enough NextStep u (steps.positional word) w next (λ no. cc) in
     let at = word_read u w word step in
@@ -111,12 +135,8 @@ front_read d sound words l u w word read full next =
       split = record {
         words_are = front.words_are;
         l = l;
-        says = record {
-          items = read.items;
-          spelled = reading_spells d sound front.before read.items l (ends_reading t (start d.short_equals front.before) (with_words at.before u) at.after read.items front.holds at.ends) read.parsed;
-          parsed = read.parsed;
-        };
-        full = full;
+        says = ends_before d sound words front.before at.before l u read.items front.holds read.parsed at.after at.ends;
+        here = can_begin begins at starts front.before front.words_are;
         begins = subst (λ ws. Says d ws (l ++ positional word ∷ [])) one (record {
           items = read.items ++ spec.positional word ∷ [];
           spelled = reading_spells d sound whole.before (read.items ++ spec.positional word ∷ []) (l ++ positional word ∷ []) reading more;
@@ -128,3 +148,16 @@ front_read d sound words l u w word read full next =
       after = at.after;
       ends = inl at.ends;
     }
+  where
+    can_begin : (begins : RestStart) (at : WordRead u word w) → Starts begins d l u w → (front : List (List ℕ)) → words ≡ front ++ word ∷ w.words → CanBegin begins d front l
+    can_begin surplus at starts front are = starts
+    can_begin separated at (not, ended) front are =
+        let past = at.past not ended in
+        let own = before_here d sound words l u read past.0 in
+        record {
+          before = own.0;
+          words_are = append_cancel_right front (own.0 ++ (dash ∷ dash ∷ []) ∷ []) (word ∷ w.words)
+              (sym are ∙ own.1 ∙ ap (λ ws. own.0 ++ ws) (at.words_are ∙ ap (λ ws. ws ++ word ∷ w.words) past.1) ∙ sym (append_assoc own.0 ((dash ∷ dash ∷ []) ∷ []) (word ∷ w.words)));
+          says = own.2;
+          within = read.within;
+        }

@@ -1,7 +1,6 @@
 -- What a word is in its place: the same, whichever word it is.
 use Rattle.std.proofs.Common.{◌≡◌, ◌≢◌, ◌<◌, ◌≤◌, ◌+◌, ℕ, suc, Bool, true, false, List, [], ◌∷◌, ◌++◌, map, length, drop, nat_eq, Option, Some, None, cond, refl, sym, ap, subst, ◌∙◌, inl, inr, arith, length-append, ◌&&◌, ◌==◌}
 use Rattle.std.specs.List.{starts_with}
-use Rattle.std.specs.Option.{option_map}
 use Rattle.std.proofs.lemmas.Bool.{false≢true}
 use Rattle.std.proofs.lemmas.Bool.Decides.{Decides-eqb}
 use Rattle.std.proofs.lemmas.Option.{same_Some}
@@ -27,6 +26,7 @@ use Rattle.lexopt_options_spec.proofs.Fronts.{one_front}
 use Rattle.lexopt_options_spec.proofs.Growing.{longer}
 use Rattle.lexopt_options_spec.proofs.Lists.{first_same, same_last}
 use Rattle.lexopt_options_spec.proofs.Occurs.{longer as no_longer}
+use Rattle.lexopt_options_spec.proofs.Sound.{known}
 
 -- ---- a value in the word of its option is shorter than the word
 
@@ -175,13 +175,9 @@ first_low t p u w x lone (first_optional name word v z k step takes) = optional_
 first_low t p u w x lone (first_several name n words v z k step few takes) =
     several_low p v w name words (option_low p u v name lone step) (full_step n v w (steps.items words) few (enough (ValuesStep n) v (steps.items words) w takes (λ none. cc)))
 
-known : {X Y : Type 0} (f : X → Y) (o : Option X) (y : Y) → option_map f o ≡ Some y → (x : X) × (f x ≡ y)
-known f None y is = absurd (let e : None ≡ Some y = is in cc)
-known f (Some x) y is = (x, same_Some (f x) y is)
-
 is_whole : (options : List Declared) (p : List ℕ) (x : Item) (s : Parsed) → parsed_item options x ≡ Some s → EndsWith p s → Whole p x
-is_whole options p (spec.option name v) s is whole = let index = known (λ i. legal.option i v) (index_of options name) s is in subst (EndsWith p) (sym index.1) whole
-is_whole options p (spec.many name vs) s is whole = let index = known (λ i. legal.several i vs) (index_of options name) s is in subst (EndsWith p) (sym index.1) whole
+is_whole options p (spec.option name v) s is whole = let index = known (λ i. legal.option i v) (index_of options name) s is in subst (EndsWith p) (sym index.2) whole
+is_whole options p (spec.many name vs) s is whole = let index = known (λ i. legal.several i vs) (index_of options name) s is in subst (EndsWith p) (sym index.2) whole
 is_whole options p (spec.positional word) s is whole = subst (EndsWith p) (sym (same_Some (legal.positional word) s is)) whole
 
 -- what is read last does not end with the word

@@ -1,7 +1,7 @@
 -- How many words belong to each positional.
 use Rattle.std.proofs.Common.{◌≡◌, ◌≤◌, ◌+◌, ◌-◌, ◌==◌, ◌||◌, ℕ, zero, suc, Bool, true, false, List, [], ◌∷◌, length, take, min, max, Option, Some, None, if◌then◌else◌, refl, sym, ap, subst, ◌∙◌, arith}
 use Rattle.std.proofs.lemmas.Bool.{eqb-true, false≢true}
-use Rattle.std.proofs.lemmas.List.Sums.{sum_by-cons}
+use Rattle.std.proofs.lemmas.List.Sums.{count_by-le-length, length-filter, sum_by-cons}
 use Rattle.std.specs.List.{AllZip, list_any, sum_by}
 use Rattle.lexopt_options_spec.specs.Declaration.{Count, Positional, once, at_most_once, any_number, at_least_once, has_to_occur, may_repeat}
 use Rattle.lexopt_options_spec.specs.Legal.{IsWithin, most}
@@ -24,22 +24,19 @@ least_cons p ps = go p.count
     go any_number = omega arith
     go at_least_once = omega arith
 
-least_small : (ps : List Positional) → least ps ≤ length ps
-least_small [] = omega arith
-least_small (p ∷ ps) = subst (λ n. n ≤ length (p ∷ ps)) (sym (least_cons p ps)) (go p.count (least_small ps))
-  where
-    go : (c : Count) → least ps ≤ length ps → needs c + least ps ≤ length (p ∷ ps)
-    go once rest = omega arith
-    go at_most_once rest = omega arith
-    go any_number rest = omega arith
-    go at_least_once rest = omega arith
-
 pub least_fits : (ps : List Positional) → IsWithin (least ps) (most ps)
 least_fits ps = go (list_any (λ p. may_repeat p.count) ps)
   where
     go : (b : Bool) → IsWithin (least ps) (if b then None else Some (length ps))
     go true = tt
-    go false = least_small ps
+    go false = let few = count_by-le-length (λ (p : Positional). has_to_occur p.count) ps in omega (arith, few, length-filter (λ (p : Positional). has_to_occur p.count) ps)
+
+pub least_within : (ps : List Positional) (n : ℕ) → IsWithin n (most ps) → IsWithin (max n (least ps)) (most ps)
+least_within ps n within = go (most ps) within (least_fits ps)
+  where
+    go : (limit : Option ℕ) → IsWithin n limit → IsWithin (least ps) limit → IsWithin (max n (least ps)) limit
+    go None a b = tt
+    go (Some m) a b = omega (arith, a, b)
 
 -- the words that the first positional leaves can belong to those after it
 rest_fits : (p : Positional) (ps : List Positional) (spare : ℕ) → IsWithin (least (p ∷ ps) + spare) (most (p ∷ ps)) → IsWithin (least ps + (spare - extra p.count spare)) (most ps)
@@ -189,13 +186,13 @@ one_shares ps n shares others are too =
 
 pub some_places : (ps : List Positional) (n : ℕ) → IsWithin n (most ps) → (places : List ℕ) × ArePlaces ps n places
 some_places ps n within =
-    let some = some_shares ps (max n (least ps)) (omega arith) (both (most ps) within (least_fits ps)) in
+    let some = some_shares ps (max n (least ps)) (omega arith) (least_within ps n within) in
     (take n (owners 0 some.0), record { shares = some.0; are_shares = some.1; placed = refl })
-  where
-    both : (limit : Option ℕ) → IsWithin n limit → IsWithin (least ps) limit → IsWithin (max n (least ps)) limit
-    both None a b = tt
-    both (Some m) a b = omega arith
+
+-- the places of words, by the number that are not required
+pub places_are : (ps : List Positional) (n : ℕ) (places : List ℕ) → ArePlaces ps n places → places ≡ take n (owners 0 (greedy ps (n - least ps)))
+places_are ps n places are =
+    are.placed ∙ ap (λ s. take n (owners 0 s)) (shares_are_greedy ps (n - least ps) are.shares (subst (λ m. AreShares ps m are.shares) (omega arith) are.are_shares))
 
 pub one_places : (ps : List Positional) (n : ℕ) (places others : List ℕ) → ArePlaces ps n places → ArePlaces ps n others → places ≡ others
-one_places ps n places others are too =
-    are.placed ∙ ap (λ shares. take n (owners 0 shares)) (one_shares ps (max n (least ps)) are.shares too.shares are.are_shares too.are_shares) ∙ sym too.placed
+one_places ps n places others are too = places_are ps n places are ∙ sym (places_are ps n others too)

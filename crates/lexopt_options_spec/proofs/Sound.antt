@@ -1,17 +1,19 @@
 -- The names of options that can be declared together.
-use Rattle.std.proofs.Common.{◌≡◌, ◌≢◌, ℕ, Bool, true, false, ◌==◌, ◌||◌, List, [], ◌∷◌, ◌++◌, map, position, Option, Some, None, is_none, cond, refl, sym, ap, ◌∙◌}
-use Rattle.std.specs.List.{Contains, list_any, list_all}
-use Rattle.std.proofs.lemmas.Bool.{and_parts, false≢true, eq-eqb}
+use Rattle.std.proofs.Common.{◌≡◌, ◌≢◌, ℕ, Bool, true, false, ◌==◌, ◌||◌, List, [], ◌∷◌, map, get_or, position, slice_get, take, Option, Some, None, is_none, cond, refl, sym, ap, ◌∙◌}
+use Rattle.std.specs.List.{Contains, list_any}
+use Rattle.std.proofs.lemmas.Bool.{false≢true, eq-eqb}
 use Rattle.std.proofs.lemmas.List.Folds.{list_any_at}
 use Rattle.std.proofs.lemmas.List.Quantifiers.{position-Some}
+use Rattle.std.proofs.lemmas.Option.{get_or_from_slice_get, same_Some, slice_get-get_or, slice_get_within}
 use Rattle.lexopt_spec.specs.Pieces.{replacement, lossy_characters}
 use Rattle.lexopt_spec.specs.UnreadLine.{dash, equals}
 use Rattle.lexopt_line_spec.specs.Table as spec
 use Rattle.lexopt_line_spec.specs.Table.{Name, short, long, Item}
 use Rattle.lexopt_line_spec.specs.Spelling.{IsWholeName, HaveWholeNames}
-use Rattle.lexopt_options_spec.specs.Declaration.{Declared, Reason, has, all_names, has_name, is_empty, is_name, is_one_of, index_of, name_fault, names_fault, or_else, fault, faults, is_sound}
+use Rattle.lexopt_options_spec.specs.Declaration.{Declared, Reason, has, all_names, has_name, is_empty, is_name, is_one_of, index_of, name_fault, names_fault, or_else, fault, is_sound}
 use Rattle.std.specs.Option.{option_map}
 use Rattle.lexopt_options_spec.specs.Legal.{Parsed, option, several, parsed_item}
+use Rattle.lexopt_options_spec.proofs.FaultLemmas.{declared_at}
 use Rattle.lexopt_options_spec.proofs.Lists.{first_same}
 use Rattle.lexopt_options_spec.proofs.Tables.{name_is}
 
@@ -66,23 +68,31 @@ names_fine (n ∷ ns) name none is =
     either (is_name name n) (is_one_of ns name) (name_fault name ≡ None) is
     (λ here. ap name_fault (sym (name_is name n here)) ∙ parts.0) (λ later. names_fine ns name parts.1 later)
 
-good_after : (before os : List Declared) (name : Name) → list_all is_none (faults before os) ≡ true → list_any (has_name name) os ≡ true → IsGoodName name
-good_after before [] name sound is = absurd (false≢true is)
-good_after before (o ∷ os) name sound is =
-    let parts = and_parts (is_none (fault before o)) _ sound in
-    either (has_name name o) (list_any (has_name name) os) (IsGoodName name) is
-    (λ here. good_name name (names_fine (all_names o) name (neither (names_fault name_fault (all_names o)) _ (no_fault (fault before o) parts.0)).0 here))
-    (λ later. good_after (before ++ o ∷ []) os name parts.1 later)
-
 pub found : (p : Declared → Bool) (os : List Declared) (i : ℕ) → position p os ≡ Some i → list_any p os ≡ true
 found p [] i is = absurd (let e : None ≡ Some i = is in cc)
 found p (o ∷ os) i is =
     let at = position-Some p (o ∷ os) i o is in
     list_any_at p (o ∷ os) i o at.0 at.1
 
+-- the option with a name
+pub option_there : (options : List Declared) (name : Name) (i : ℕ) → index_of options name ≡ Some i → (o : Declared) × (slice_get options i ≡ Some o) × (has_name name o ≡ true)
+option_there [] name i is = absurd (let e : None ≡ Some i = is in cc)
+option_there (o ∷ os) name i is =
+    let at = position-Some (has_name name) (o ∷ os) i o is in
+    (get_or (o ∷ os) i o, slice_get-get_or (o ∷ os) i o at.0, at.1)
+
+-- nothing is wrong with an option that is declared
+pub none_wrong : (options : List Declared) (i : ℕ) (o : Declared) → is_sound options ≡ true → slice_get options i ≡ Some o → fault (take i options) o ≡ None
+none_wrong options i o sound at =
+    no_fault (fault (take i options) o)
+    (ap (λ p. is_none (fault (take i options) p)) (sym (get_or_from_slice_get options i o o at)) ∙ declared_at options i o sound (slice_get_within options i o at))
+
 -- the names of these options can be declared
 pub good : (options : List Declared) (name : Name) (i : ℕ) → is_sound options ≡ true → index_of options name ≡ Some i → IsGoodName name
-good options name i sound is = good_after [] options name sound (found (has_name name) options i is)
+good options name i sound is =
+    let there = option_there options name i is in
+    let none = none_wrong options i there.0 sound there.1 in
+    good_name name (names_fine (all_names there.0) name (neither (names_fault name_fault (all_names there.0)) _ none).0 there.2)
 
 -- ---- what is read has names that can be declared
 
@@ -90,9 +100,9 @@ whole : (name : Name) → IsGoodName name → IsWholeName name
 whole (short c) is = is.1
 whole (long name) is = is.2
 
-known : {X Y : Type 0} (f : X → Y) (o : Option X) (y : Y) → option_map f o ≡ Some y → (x : X) × (o ≡ Some x)
+pub known : {X Y : Type 0} (f : X → Y) (o : Option X) (y : Y) → option_map f o ≡ Some y → (x : X) × (o ≡ Some x) × (f x ≡ y)
 known f None y is = absurd (let e : None ≡ Some y = is in cc)
-known f (Some x) y is = (x, refl)
+known f (Some x) y is = (x, refl, same_Some (f x) y is)
 
 pub whole_names : (options : List Declared) → is_sound options ≡ true → (items : List Item) (l : List Parsed) → map (parsed_item options) items ≡ map (λ s. Some s) l → HaveWholeNames items
 whole_names options sound [] l is = tt

@@ -10,16 +10,14 @@ use Rattle.lexopt_spec.specs.Steps.{NextStep}
 use Rattle.lexopt_line_spec.specs.Readings.{start}
 use Rattle.lexopt_line_spec.specs.Table.{Item, Table}
 use Rattle.lexopt_line_spec.proofs.Exact.{next_same}
-use Rattle.lexopt_line_spec.proofs.Existence.{only_one}
-use Rattle.lexopt_line_spec.proofs.Names.{spelled_shows}
 use Rattle.lexopt_options_spec.specs.Declaration.{Declaration, table}
 use Rattle.lexopt_options_spec.specs.Legal as legal
 use Rattle.lexopt_options_spec.specs.Legal.{Parsed, parsed_item, positional_count, positional_words, most, IsWithin, MeansFront}
 use Rattle.lexopt_options_spec.specs.Completion.{EndsWith, Extends, HasRole, IsOpen, argument, value, role_of}
 use Rattle.lexopt_options_spec.specs.States.{State, Says, SaysOpenly, Leaves, leaves_anything, leaves_due, leaves_first, leaves_further, leaves_ended, LeadsNowhere, opens, is_full, room, role_in}
-use Rattle.lexopt_options_spec.proofs.Fronts.{Rest, rest_of, spelled_read}
+use Rattle.lexopt_options_spec.proofs.Fronts.{Rest, rest_of, same_parsed, spelled_read}
 use Rattle.lexopt_options_spec.proofs.Growing.{EndsSo, ended_before, open_there as line_open, separator_last, ends_so, adds_word, items_calm, longer}
-use Rattle.lexopt_options_spec.proofs.Lists.{Ending, has_none, has_last, ending, count_append, same_last, same_somes}
+use Rattle.lexopt_options_spec.proofs.Lists.{Ending, has_none, has_last, ending, count_append, same_last}
 use Rattle.lexopt_options_spec.proofs.Occurs.{dashes_calm, longer as no_longer}
 use Rattle.lexopt_options_spec.proofs.OpenLines.{dashes}
 use Rattle.lexopt_options_spec.proofs.ReadItems.{ReadsAll}
@@ -36,10 +34,7 @@ front_says d words l means = record { items = means.items; spelled = means.spell
 
 -- words say one list
 pub says_once : (d : Declaration) (words : List (List ℕ)) (l m : List Parsed) → Says d words l → Says d words m → l ≡ m
-says_once d words l m says other =
-    let same = only_one (table d.options) (start d.short_equals words) says.items other.items tt
-    (spelled_shows (table d.options) d.short_equals words says.items says.spelled) (spelled_shows (table d.options) d.short_equals words other.items other.spelled) in
-    same_somes l m (sym says.parsed ∙ ap (map (parsed_item d.options)) same ∙ other.parsed)
+says_once d words l m says other = same_parsed d words l m says.items other.items says.spelled other.spelled says.parsed other.parsed
 
 -- one more thing that is no positional
 with_other : (d : Declaration) (words : List (List ℕ)) (l : List Parsed) (s : Parsed) → legal.counts s ≡ 0 → IsWithin (positional_count l) (most d.positionals) → Says d words (l ++ s ∷ []) → MeansFront d words (l ++ s ∷ [])

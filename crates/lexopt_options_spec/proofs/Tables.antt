@@ -1,19 +1,15 @@
 -- In the table of a sound declaration, each option has its own kind.
-use Rattle.std.specs.List.{position_or_len}
-use Rattle.std.proofs.Math.Bool.{and-false, and-true, or-false}
-use Rattle.std.proofs.Common.{append_assoc, get_or, ◌<◌, position, nat_lt, not, ◌+◌, length, length-append, if◌then◌else◌, ◌≡◌, ◌⊎◌, ℕ, ◌==◌, ◌||◌, ◌&&◌, suc, zero, Bool, true, false, cond, List, [], ◌∷◌, ◌++◌, Option, Some, None, refl, sym, ap, subst, ◌∙◌, arith, inl, inr, ⊎_elim, true≢false}
-use Rattle.std.proofs.lemmas.Bool.{eq-eqb, eqb-true, lt-ltb, and_parts, or_cases, or_left, or_parts, or_right}
-use Rattle.std.specs.Prelude.{Contains, is_none}
-use Rattle.std.specs.List.{list_all, list_any}
+use Rattle.std.proofs.Common.{get_or, get_or-take, length-take-le, take, ◌<◌, position, nat_lt, length, if◌then◌else◌, ◌≡◌, ◌⊎◌, ℕ, ◌==◌, ◌||◌, ◌&&◌, suc, zero, Bool, true, false, cond, List, [], ◌∷◌, Option, Some, None, refl, sym, ap, subst, ◌∙◌, arith, inl, inr, ⊎_elim, true≢false}
+use Rattle.std.proofs.lemmas.Bool.{and_from, cases_order, false_from_ne_true, eq-eqb, eqb-true, lt-ltb, and_parts, or_cases, or_left, or_right}
+use Rattle.std.proofs.lemmas.List.{get_or_default}
+use Rattle.std.proofs.lemmas.List.Folds.{Any-from_list_any, list_any-append, list_any_at}
+use Rattle.std.proofs.lemmas.List.Sums.{position_or_len_is}
+use Rattle.std.specs.Prelude.{Any, Contains, is_none}
+use Rattle.std.specs.List.{list_any}
 use Rattle.std.specs.Cmp.Lexicographic.{pointwise, same_text}
 use Rattle.lexopt_line_spec.specs.Table.{Name, short, long, Kind, flag, one, optional, several, holds_in, kind}
-use Rattle.lexopt_options_spec.specs.Declaration.{Declared, all_names, has_name, index_of, is_name, is_one_of, if_kind, shorts_in, longs_in, shorts_of, longs_of, table, Reason, same_name, fault, faults, is_sound, shares_name, or_else, name_fault, names_fault, placeholder_fault, list_fault}
-
--- ---- lists
-
-list_any-append : {X : Type 0} (p : X → Bool) (xs ys : List X) → list_any p (xs ++ ys) ≡ (list_any p xs || list_any p ys)
-list_any-append p [] ys = refl
-list_any-append p (x ∷ xs) ys = elim (p x) as (λ v. (v || list_any p (xs ++ ys)) ≡ ((v || list_any p xs) || list_any p ys)) [ true ↦ refl | false ↦ list_any-append p xs ys ]
+use Rattle.lexopt_options_spec.specs.Declaration.{Declared, all_names, has_name, index_of, is_name, is_one_of, if_kind, shorts_in, longs_in, shorts_of, longs_of, table, Reason, same_name, is_sound, shares_name, or_else, name_fault, names_fault, placeholder_fault, list_fault}
+use Rattle.lexopt_options_spec.proofs.FaultLemmas.{declared_at}
 
 -- ---- names
 
@@ -107,14 +103,6 @@ holds_any k (long name) (o ∷ os) =
 
 -- ---- no two options have a name in common
 
-any_shared : (name : Name) (o : Declared) (before : List Declared) → has_name name o ≡ true → list_any (has_name name) before ≡ true → list_any (shares_name o) before ≡ true
-any_shared name o [] e f = absurd (true≢false (sym f))
-any_shared name o (p ∷ ps) e f =
-    elim (has_name name p) as (λ v. has_name name p ≡ v → (v || list_any (has_name name) ps) ≡ true → (shares_name o p || list_any (shares_name o) ps) ≡ true) [
-      | true ↦ λ is h. ap (λ b. b || list_any (shares_name o) ps) (any_named name (λ n. has_name n p) (all_names o) e is)
-      | false ↦ λ is h. or_right (shares_name o p) _ (any_shared name o ps e h)
-    ] refl f
-
 not_shared : (f g h : Option Reason) (b : Bool) → is_none (or_else f (or_else g (or_else h (cond b (Some same_name) None)))) ≡ true → b ≡ false
 not_shared f g h false e = refl
 not_shared None None None true e = sym e
@@ -122,34 +110,32 @@ not_shared None None (Some r) true e = sym e
 not_shared None (Some r) h true e = sym e
 not_shared (Some r) g h true e = sym e
 
--- an option that can be declared has no name of an option before it
-new_names : (name : Name) (before : List Declared) (o : Declared) → is_none (fault before o) ≡ true → list_any (has_name name) before ≡ true → has_name name o ≡ false
-new_names name before o sound there =
-    elim (has_name name o) as (λ v. has_name name o ≡ v → v ≡ false) [
-      | true ↦ λ is. sym (any_shared name o before is there) ∙ not_shared (names_fault name_fault (all_names o)) (placeholder_fault o.kind o.placeholder) (list_fault o.words) (list_any (shares_name o) before) sound
-      | false ↦ λ is. refl
-    ] refl
+-- an option has no name of one before it
+names_apart : (options : List Declared) (name : Name) (j i : ℕ) (d : Declared) → is_sound options ≡ true → j < i → i < length options → has_name name (get_or options i d) ≡ true
+    → has_name name (get_or options j d) ≡ false
+names_apart options name j i d sound less within has = false_from_ne_true _ (λ there. true≢false (sym (list_any_at (shares_name o) (take i options) j d earlier (shared there)) ∙ alone))
+  where
+    o : Declared
+    o = get_or options i d
 
-any_more : (p : Declared → Bool) (before : List Declared) (o : Declared) → list_any p before ≡ true → list_any p (before ++ o ∷ []) ≡ true
-any_more p before o e = list_any-append p before (o ∷ []) ∙ ap (λ b. b || (p o || false)) e
+    earlier : j < length (take i options)
+    earlier = let all = length-take-le i options (omega (arith, within)) in omega (arith, all, less)
 
-any_last : (p : Declared → Bool) (before : List Declared) (o : Declared) → p o ≡ true → list_any p (before ++ o ∷ []) ≡ true
-any_last p before o e = list_any-append p before (o ∷ []) ∙ or_right (list_any p before) _ (ap (λ b. b || false) e)
+    alone : list_any (shares_name o) (take i options) ≡ false
+    alone = not_shared (names_fault name_fault (all_names o)) (placeholder_fault o.kind o.placeholder) (list_fault o.words) _ (declared_at options i d sound within)
 
--- and none of an option after it
-none_after : (name : Name) (before os : List Declared) → list_all is_none (faults before os) ≡ true → list_any (has_name name) before ≡ true → list_any (has_name name) os ≡ false
-none_after name before [] sound there = refl
-none_after name before (o ∷ os) sound there =
-    let parts = and_parts (is_none (fault before o)) (list_all is_none (faults (before ++ o ∷ []) os)) sound in
-    ap (λ b. b || list_any (has_name name) os) (new_names name before o parts.0 there)
-    ∙ none_after name (before ++ o ∷ []) os parts.1 (any_more (has_name name) before o there)
+    shared : has_name name (get_or options j d) ≡ true → shares_name o (get_or (take i options) j d) ≡ true
+    shared there = ap (shares_name o) (get_or-take i options j d less) ∙ any_named name (λ n. has_name n (get_or options j d)) (all_names o) has there
 
-none_held : (k : Kind) (name : Name) (os : List Declared) → list_any (has_name name) os ≡ false → list_any (is_held k name) os ≡ false
-none_held k name [] e = refl
-none_held k name (o ∷ os) e =
-    let parts = or_parts (has_name name o) (list_any (has_name name) os) e in
-    ap (λ b. (is_kind k o.kind && b) || list_any (is_held k name) os) parts.0
-    ∙ elim (is_kind k o.kind) as (λ v. ((v && false) || list_any (is_held k name) os) ≡ false) [ true ↦ none_held k name os parts.1 | false ↦ none_held k name os parts.1 ]
+-- the option at an index is the only one with its name
+only_named : (options : List Declared) (name : Name) (i j : ℕ) (d : Declared) → is_sound options ≡ true → i < length options → j < length options → has_name name (get_or options i d) ≡ true
+    → has_name name (get_or options j d) ≡ true → i ≡ j
+only_named options name i j d sound i_in j_in a b = ⊎_elim
+    (λ same. same)
+    (λ other. absurd (⊎_elim
+    (λ less. true≢false (sym a ∙ names_apart options name i j d sound less j_in b))
+    (λ more. true≢false (sym b ∙ names_apart options name j i d sound more i_in a)) other))
+    (cases_order i j)
 
 -- ---- the option with a name
 
@@ -157,26 +143,19 @@ abbrev pub IsIn : Declared → List Declared → Type 0
 IsIn o [] = ⊥
 IsIn o (p ∷ ps) = (p ≡ o) ⊎ IsIn o ps
 
-any_of : (p : Declared → Bool) (os : List Declared) (o : Declared) → IsIn o os → p o ≡ true → list_any p os ≡ true
-any_of p [] o here e = absurd here
-any_of p (q ∷ os) o (inl is) e = ap (λ (x : Declared). p x || list_any p os) is ∙ ap (λ b. b || list_any p os) e
-any_of p (q ∷ os) o (inr more) e = or_right (p q) _ (any_of p os o more e)
-
 -- the only option with this name decides
-held_by : (k : Kind) (name : Name) (before os : List Declared) (o : Declared) → list_all is_none (faults before os) ≡ true → IsIn o os → has_name name o ≡ true → list_any (is_held k name) os ≡ is_kind k o.kind
-held_by k name before [] o sound here has = absurd here
-held_by k name before (q ∷ os) o sound (inl is) has =
-    let parts = and_parts (is_none (fault before q)) (list_all is_none (faults (before ++ q ∷ []) os)) sound in
-    let named : has_name name q ≡ true = ap (has_name name) is ∙ has in
-    let rest = none_held k name os (none_after name (before ++ q ∷ []) os parts.1 (any_last (has_name name) before q named)) in
-    ap (λ b. is_held k name q || b) rest ∙ or-false (is_held k name q)
-    ∙ ap (λ b. is_kind k q.kind && b) named ∙ and-true (is_kind k q.kind) ∙ ap (λ (x : Declared). is_kind k x.kind) is
-held_by k name before (q ∷ os) o sound (inr more) has =
-    let parts = and_parts (is_none (fault before q)) (list_all is_none (faults (before ++ q ∷ []) os)) sound in
-    elim (has_name name q) as (λ v. has_name name q ≡ v → list_any (is_held k name) (q ∷ os) ≡ is_kind k o.kind) [
-      | true ↦ λ is. absurd (true≢false (sym (any_of (has_name name) os o more has) ∙ none_after name (before ++ q ∷ []) os parts.1 (any_last (has_name name) before q is)))
-      | false ↦ λ is. ap (λ b. (is_kind k q.kind && b) || list_any (is_held k name) os) is ∙ ap (λ b. b || list_any (is_held k name) os) (and-false (is_kind k q.kind)) ∙ held_by k name (before ++ q ∷ []) os o parts.1 more has
-    ] refl
+held_by : (k : Kind) (name : Name) (options : List Declared) (i : ℕ) (o : Declared) → is_sound options ≡ true → i < length options → get_or options i o ≡ o → has_name name o ≡ true
+    → list_any (is_held k name) options ≡ is_kind k o.kind
+held_by k name options i o sound within at has = go (is_kind k o.kind) refl
+  where
+    go : (b : Bool) → is_kind k o.kind ≡ b → list_any (is_held k name) options ≡ b
+    go true is = list_any_at (is_held k name) options i o within (ap (is_held k name) at ∙ and_from _ _ is has)
+    go false is = false_from_ne_true _ (λ any.
+        let there : Any (λ x. is_held k name x ≡ true) options = Any-from_list_any (is_held k name) options any in
+        let parts = and_parts (is_kind k there.1.kind) (has_name name there.1) there.4 in
+        let here = get_or_default options there.0 o there.1 there.2 ∙ there.3 in
+        let same = only_named options name i there.0 o sound within there.2 (ap (has_name name) at ∙ has) (ap (has_name name) here ∙ parts.1) in
+        true≢false (sym parts.0 ∙ ap (λ (x : Declared). is_kind k x.kind) (sym here ∙ ap (λ n. get_or options n o) (sym same) ∙ at) ∙ is))
 
 pub contains_in : (os : List Declared) (o : Declared) → Contains os o → IsIn o os
 contains_in [] o (k, below, at) = absurd (omega arith)
@@ -193,7 +172,7 @@ chosen several = refl
 pub kind_of_name : (options : List Declared) (o : Declared) → is_sound options ≡ true → Contains options o → (name : Name) → has_name name o ≡ true → kind (table options) name ≡ o.kind
 unfolding kind
 kind_of_name options o sound there name has =
-    let held : (k : Kind) → holds k options name ≡ is_kind k o.kind = λ k. holds_any k name options ∙ held_by k name [] options o sound (contains_in options o there) has in
+    let held : (k : Kind) → holds k options name ≡ is_kind k o.kind = λ k. holds_any k name options ∙ held_by k name options there.0 o sound there.1 there.2 has in
     ap (λ b. cond b one (cond (holds optional options name) optional (cond (holds several options name) several flag))) (held one)
     ∙ ap (λ b. cond (is_kind one o.kind) one (cond b optional (cond (holds several options name) several flag))) (held optional)
     ∙ ap (λ b. cond (is_kind one o.kind) one (cond (is_kind optional o.kind) optional (cond b several flag))) (held several)
@@ -201,37 +180,12 @@ kind_of_name options o sound there name has =
 
 -- ---- the index of a name
 
--- no option before one that can be declared has a name of it
-pub none_before : (name : Name) (before : List Declared) (o : Declared) → is_none (fault before o) ≡ true → has_name name o ≡ true → list_any (has_name name) before ≡ false
-none_before name before o sound has =
-    elim (list_any (has_name name) before) as (λ v. list_any (has_name name) before ≡ v → v ≡ false) [
-      | true ↦ λ there. absurd (true≢false (sym has ∙ new_names name before o sound there))
-      | false ↦ λ none. refl
-    ] refl
-
-pub position_here : (p : Declared → Bool) (before os : List Declared) (o : Declared) → list_any p before ≡ false → p o ≡ true → position p (before ++ o ∷ os) ≡ Some (length before)
-position_here p before os o none is =
-    let at = len_here before none in
-    ap (λ n. if nat_lt n (length (before ++ o ∷ os)) then Some n else None) at ∙ ap (λ b. if b then Some (length before) else None) (lt-ltb _ _ (omega (arith, length-append before (o ∷ os))))
-  where
-    len_here : (before : List Declared) → list_any p before ≡ false → position_or_len p (before ++ o ∷ os) ≡ length before
-    len_here [] none = ap (λ b. if not b then 1 + position_or_len p os else 0) is
-    len_here (x ∷ xs) none =
-        let parts = or_parts (p x) (list_any p xs) none in
-        ap (λ b. if not b then 1 + position_or_len p (xs ++ o ∷ os) else 0) parts.0 ∙ ap (λ n. 1 + n) (len_here xs parts.1) ∙ omega arith
+first_at : {X : Type 0} (p : X → Bool) (xs : List X) (i : ℕ) (d : X) → i < length xs → ((k : ℕ) → k < i → p (get_or xs k d) ≡ false) → p (get_or xs i d) ≡ true → position p xs ≡ Some i
+first_at p xs i d within before here =
+    ap (λ n. if nat_lt n (length xs) then Some n else None) (position_or_len_is p xs i d (omega (arith, within)) before (λ inside. here))
+    ∙ ap (λ b. if b then Some i else None) (lt-ltb i (length xs) within)
 
 -- an option of a sound list has the index of its name
-named_there : (before os : List Declared) (name : Name) (i : ℕ) (d : Declared) → list_all is_none (faults before os) ≡ true → i < length os → has_name name (get_or os i d) ≡ true
-    → position (has_name name) (before ++ os) ≡ Some (length before + i)
-named_there before [] name i d sound within has = absurd (omega (arith, within))
-named_there before (o ∷ os) name zero d sound within has =
-    let parts = and_parts (is_none (fault before o)) _ sound in
-    position_here (has_name name) before os o (none_before name before o parts.0 has) has ∙ ap (λ n. Some n) (omega arith)
-named_there before (o ∷ os) name (suc i) d sound within has =
-    let parts = and_parts (is_none (fault before o)) _ sound in
-    ap (position (has_name name)) (sym (append_assoc before (o ∷ []) os))
-    ∙ named_there (before ++ o ∷ []) os name i d parts.1 (omega (arith, within)) has ∙ ap (λ n. Some n) (let e = length-append before (o ∷ []) in omega (arith, e))
-
 pub index_there : (options : List Declared) (name : Name) (i : ℕ) (d : Declared) → is_sound options ≡ true → i < length options → has_name name (get_or options i d) ≡ true
     → index_of options name ≡ Some i
-index_there options name i d sound within has = named_there [] options name i d sound within has ∙ ap (λ n. Some n) (omega arith)
+index_there options name i d sound within has = first_at (has_name name) options i d within (λ k less. names_apart options name k i d sound less within has) has

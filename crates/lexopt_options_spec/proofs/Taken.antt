@@ -1,17 +1,16 @@
 -- Which words are accepted by the positionals that they belong to.
-use Rattle.std.proofs.Common.{◌≡◌, ◌≤◌, ◌<◌, ◌+◌, ◌-◌, ◌⊎◌, ℕ, zero, suc, Bool, true, false, List, [], ◌∷◌, ◌++◌, map, length, max, min, take, replicate, slice_get, Option, Some, None, is_none, cond, unwrap_or, refl, sym, ap, subst, ◌∙◌, arith, inl, inr, ⊎_elim, length-append}
+use Rattle.std.proofs.Common.{◌≡◌, ◌≤◌, ◌<◌, ◌+◌, ◌-◌, ◌⊎◌, ℕ, zero, suc, Bool, true, false, List, [], ◌∷◌, ◌++◌, map, length, max, min, drop, length-drop, take, take-take, take_all, replicate, slice_get, Option, Some, None, is_none, cond, unwrap_or, refl, sym, ap, subst, ◌∙◌, arith, inl, inr, ⊎_elim, length-append}
 use Rattle.std.proofs.lemmas.Bool.{and_parts, cases_lt, false≢true}
+use Rattle.std.proofs.lemmas.List.{length-map, length-replicate}
 use Rattle.std.proofs.lemmas.List.Sums.{sum_by-cons}
 use Rattle.std.specs.List.{sum_by}
 use Rattle.std.specs.Option.{option_map}
-use Rattle.lexopt_options_spec.specs.Completion.{CanOwn}
 use Rattle.lexopt_options_spec.specs.Declaration.{Count, Positional, once, at_most_once, any_number, at_least_once, are_listable, list_fault}
 use Rattle.lexopt_options_spec.specs.Completion.{CanBeTaken}
 use Rattle.lexopt_options_spec.specs.Legal.{IsWithin, Parsed, option, several, positional, most, positional_count, positional_words}
-use Rattle.lexopt_options_spec.specs.Places.{AreShares, AreTaken, ArePlaces, IsNotTaken, least, needs, owners, refused_word, takes_at}
+use Rattle.lexopt_options_spec.specs.Places.{AreShares, AreTaken, ArePlaces, IsNotTaken, extra, greedy, least, needs, owners, refused_word, takes_at}
 use Rattle.lexopt_options_spec.proofs.Listed.{value_fits, value_for}
-use Rattle.lexopt_options_spec.proofs.Shares.{greedy_are_shares, least_fits, one_places, shares_are_greedy, some_places}
-use Rattle.lexopt_options_spec.specs.Places.{extra, greedy}
+use Rattle.lexopt_options_spec.proofs.Shares.{least_within, one_places, places_are, some_places}
 use Rattle.lexopt_options_spec.proofs.Sound.{no_fault}
 
 -- ---- the words of the positionals that are read
@@ -109,49 +108,27 @@ sample_fits (p ∷ ps) zero good =
 sample_fits (p ∷ ps) (suc i) good =
     let parts = and_parts (is_none (list_fault p.words)) (are_listable ps) good in sample_fits ps i parts.1
 
--- such a word for each place that has no word
-fill : List Positional → List ℕ → List (List ℕ) → List (List ℕ)
-fill ps [] words = []
-fill ps (i ∷ places) [] = sample ps i ∷ fill ps places []
-fill ps (i ∷ places) (w ∷ words) = fill ps places words
+samples_fit : (ps : List Positional) (places : List ℕ) → are_listable ps ≡ true → refused_word ps places (map (sample ps) places) ≡ None
+samples_fit ps [] good = refl
+samples_fit ps (i ∷ places) good = taken_first (takes_at ps i (sample ps i)) (refused_word ps places (map (sample ps) places)) (i, sample ps i) (sample_fits ps i good) (samples_fit ps places good)
 
-fill_length : (ps : List Positional) (places : List ℕ) (words : List (List ℕ)) → length words ≤ length places → length (words ++ fill ps places words) ≡ length places
-unfolding fill
-fill_length ps [] [] small = refl
-fill_length ps [] (w ∷ words) small = absurd (omega (arith, small))
-fill_length ps (i ∷ places) [] small = let rest = fill_length ps places [] (omega arith) in omega (arith, rest)
-fill_length ps (i ∷ places) (w ∷ words) small = let rest = fill_length ps places words (omega (arith, small)) in omega (arith, rest)
-
-fill_fits : (ps : List Positional) (places : List ℕ) (words : List (List ℕ)) → are_listable ps ≡ true → refused_word ps places words ≡ None → refused_word ps places (words ++ fill ps places words) ≡ None
-unfolding fill
+-- with such a word for each place that has no word
+fill_fits : (ps : List Positional) (places : List ℕ) (words : List (List ℕ)) → are_listable ps ≡ true → refused_word ps places words ≡ None
+    → refused_word ps places (words ++ map (sample ps) (drop (length words) places)) ≡ None
 fill_fits ps [] words good none = refl
-fill_fits ps (i ∷ places) [] good none = taken_first (takes_at ps i (sample ps i)) (refused_word ps places (fill ps places [])) (i, sample ps i) (sample_fits ps i good) (fill_fits ps places [] good (empty ps places))
-  where
-    empty : (ps : List Positional) (places : List ℕ) → refused_word ps places [] ≡ None
-    empty ps [] = refl
-    empty ps (i ∷ places) = refl
+fill_fits ps (i ∷ places) [] good none = samples_fit ps (i ∷ places) good
 fill_fits ps (i ∷ places) (w ∷ words) good none =
     let parts = none_first (takes_at ps i w) (refused_word ps places words) (i, w) none in
-    taken_first (takes_at ps i w) (refused_word ps places (words ++ fill ps places words)) (i, w) parts.0 (fill_fits ps places words good parts.1)
+    taken_first (takes_at ps i w) _ (i, w) parts.0 (fill_fits ps places words good parts.1)
 
-replicate_length : (n i : ℕ) → length (replicate n i) ≡ n
-replicate_length zero i = refl
-replicate_length (suc n) i = let rest = replicate_length n i in omega (arith, rest)
-
-owners_length : (i : ℕ) (shares : List ℕ) → length (owners i shares) ≡ sum_by (λ n. n) shares
+pub owners_length : (i : ℕ) (shares : List ℕ) → length (owners i shares) ≡ sum_by (λ n. n) shares
 owners_length i [] = refl
 owners_length i (n ∷ shares) =
     let first = sum_by-cons (λ n. n) n shares in
-    let one = replicate_length n i in
+    let one = length-replicate n i in
     let rest = owners_length (suc i) shares in
     let all = length-append (replicate n i) (owners (suc i) shares) in
     omega (arith, first, one, rest, all)
-
-take_all : {X : Type 0} (n : ℕ) (l : List X) → length l ≤ n → take n l ≡ l
-take_all zero [] small = refl
-take_all (suc n) [] small = refl
-take_all zero (x ∷ l) small = absurd (omega (arith, small))
-take_all (suc n) (x ∷ l) small = ap (λ m. x ∷ m) (take_all n l (omega (arith, small)))
 
 -- the words that make a line legal
 pub record AreFilled (ps : List Positional) (words : List (List ℕ)) : Type 0 where
@@ -160,21 +137,14 @@ pub record AreFilled (ps : List Positional) (words : List (List ℕ)) : Type 0 w
   pub within : IsWithin (length (words ++ more)) (most ps)
   pub taken : AreTaken ps (words ++ more)
 
-least_within : (ps : List Positional) (n : ℕ) → IsWithin n (most ps) → IsWithin (max n (least ps)) (most ps)
-least_within ps n within = go (most ps) within (least_fits ps)
-  where
-    go : (limit : Option ℕ) → IsWithin n limit → IsWithin (least ps) limit → IsWithin (max n (least ps)) limit
-    go None a b = tt
-    go (Some m) a b = omega (arith, a, b)
-
 pub filled : (ps : List Positional) (words : List (List ℕ)) → are_listable ps ≡ true → CanBeTaken ps words → AreFilled ps words
 filled ps words good can =
     let n = max can.count (least ps) in
     let all = owners 0 can.are_places.shares in
     let long : length all ≡ n = owners_length 0 can.are_places.shares ∙ can.are_places.are_shares.all in
     let fits : length words ≤ length all = (let l = can.longer in omega (arith, long, l)) in
-    let more = fill ps all words in
-    let counted : length (words ++ more) ≡ n = fill_length ps all words fits ∙ long in
+    let more = map (sample ps) (drop (length words) all) in
+    let counted : length (words ++ more) ≡ n = (let a = length-append words more in let b = length-map (drop (length words) all) (sample ps) in let c = length-drop (length words) all in omega (arith, a, b, c, long, fits)) in
     let none : refused_word ps all words ≡ None = sym (refused_take ps all words can.count can.longer) ∙ ap (λ places. refused_word ps places words) (sym can.are_places.placed) ∙ can.none in
     record {
       more = more;
@@ -216,22 +186,6 @@ same_owners (p ∷ ps) i (suc k) s t a b = go p.count (λ r q. same_owners ps (s
     go any_number later = take_replicate (suc k) (0 + s) i _ (omega (arith, a)) ∙ sym (take_replicate (suc k) (0 + t) i _ (omega (arith, b)))
     go at_least_once later = take_replicate (suc k) (1 + s) i _ (omega (arith, a)) ∙ sym (take_replicate (suc k) (1 + t) i _ (omega (arith, b)))
 
-take_take : {X : Type 0} (k n : ℕ) (l : List X) → k ≤ n → take k (take n l) ≡ take k l
-take_take zero n l small = refl
-take_take (suc k) zero l small = absurd (omega (arith, small))
-take_take (suc k) (suc n) [] small = refl
-take_take (suc k) (suc n) (x ∷ l) small = ap (λ m. x ∷ m) (take_take k n l (omega (arith, small)))
-
--- the first k words belong to the same positionals in a line where at most k words are not required
-pub record FewerPlaces (ps : List Positional) (k : ℕ) (places : List ℕ) : Type 0 where
-  pub count : ℕ
-  pub longer : k ≤ count
-  pub small : count ≤ k + least ps
-  pub within : IsWithin count (most ps)
-  pub others : List ℕ
-  pub are_places : ArePlaces ps count others
-  pub same : take k others ≡ take k places
-
 pub less_within : (limit : Option ℕ) (n m : ℕ) → n ≤ m → IsWithin m limit → IsWithin n limit
 less_within None n m small within = tt
 less_within (Some limit) n m small within = omega (arith, small, within)
@@ -244,67 +198,29 @@ pub same_within : (n k : ℕ) (limit : Option ℕ) → k ≡ 0 → IsWithin n li
 same_within n k None none within = tt
 same_within n k (Some m) none within = omega arith
 
-pub fewer_places : (ps : List Positional) (k count : ℕ) (places : List ℕ) → k ≤ count → IsWithin count (most ps) → ArePlaces ps count places → FewerPlaces ps k places
-fewer_places ps k count places longer within are = ⊎_elim
-    (λ (below : count < k + least ps). record { count = count; longer = longer; small = omega (arith, below); within = within; others = places; are_places = are; same = refl })
-    (λ (big : k + least ps ≤ count). many big)
-    (cases_lt count (k + least ps))
+-- The first k words belong to the same positionals if s words are not required, for an s that is at
+-- most k.
+pub places_spare : (ps : List Positional) (k count : ℕ) (places : List ℕ) → k ≤ count → IsWithin count (most ps) → ArePlaces ps count places
+    → (s : ℕ) × (k - least ps ≤ s) × (s ≤ k) × IsWithin (least ps + s) (most ps) × (take k places ≡ take k (owners 0 (greedy ps s)))
+places_spare ps k count places longer within are = (
+  min k spare,
+  omega (arith, longer),
+  omega arith,
+  less_within (most ps) (least ps + min k spare) (max count (least ps)) (omega (arith, longer)) (least_within ps count within),
+  ap (take k) (places_are ps count places are) ∙ take-take k count (owners 0 (greedy ps spare)) longer ∙ same,
+)
   where
-    many : k + least ps ≤ count → FewerPlaces ps k places
-    many big =
-        let n = k + least ps in
-        let within_less = less_within (most ps) n count big within in
-        let shares = greedy_are_shares ps k (subst (λ m. IsWithin m (most ps)) (omega arith) within_less) in
-        let their : are.shares ≡ greedy ps (count - least ps) =
-        shares_are_greedy ps (count - least ps) are.shares (subst (λ m. AreShares ps m are.shares) (omega (arith, big)) are.are_shares) in
-        record {
-          count = n;
-          longer = omega arith;
-          small = omega arith;
-          within = within_less;
-          others = take n (owners 0 (greedy ps k));
-          are_places = record { shares = greedy ps k; are_shares = subst (λ m. AreShares ps m (greedy ps k)) (omega arith) shares; placed = refl };
-          same = take_take k n (owners 0 (greedy ps k)) (omega arith)
-              ∙ same_owners ps 0 k k (count - least ps) (omega arith) (omega (arith, big))
-              ∙ ap (λ s. take k (owners 0 s)) (sym their)
-              ∙ sym (take_take k count (owners 0 are.shares) longer)
-              ∙ ap (λ l. take k l) (sym are.placed);
-        }
+    spare : ℕ
+    spare = count - least ps
 
--- such a line decides whether these words can be accepted
-pub taken_soon : (ps : List Positional) (words : List (List ℕ)) → CanBeTaken ps words → (fewer : CanBeTaken ps words) × (fewer.count ≤ length words + least ps)
-taken_soon ps words can =
-    let few = fewer_places ps (length words) can.count can.places can.longer can.within can.are_places in (
-      record {
-        count = few.count;
-        longer = few.longer;
-        within = few.within;
-        places = few.others;
-        are_places = few.are_places;
-        none = sym (refused_take ps few.others words (length words) (omega arith)) ∙ ap (λ l. refused_word ps l words) few.same ∙ refused_take ps can.places words (length words) (omega arith) ∙ can.none;
-      },
-      few.small,
-    )
+    same : take k (owners 0 (greedy ps spare)) ≡ take k (owners 0 (greedy ps (min k spare)))
+    same = ⊎_elim
+        (λ below. ap (λ s. take k (owners 0 (greedy ps s))) (omega (arith, below)))
+        (λ past. same_owners ps 0 k spare (min k spare) past (omega (arith, past)))
+        (cases_lt spare k)
 
-slice_get_take : (n k : ℕ) (l : List ℕ) → n < k → slice_get (take k l) n ≡ slice_get l n
-slice_get_take n zero l small = absurd (omega (arith, small))
-slice_get_take n (suc k) [] small = refl
-slice_get_take zero (suc k) (x ∷ l) small = refl
-slice_get_take (suc n) (suc k) (x ∷ l) small = slice_get_take n k l (omega (arith, small))
-
--- and which positional a word can belong to
-pub owned_soon : (ps : List Positional) (words : List (List ℕ)) (i : ℕ) → CanOwn ps words i → (fewer : CanOwn ps words i) × (fewer.count ≤ suc (length words) + least ps)
-owned_soon ps words i can =
-    let n = length words in
-    let few = fewer_places ps (suc n) can.count can.places (let l = can.longer in omega (arith, l)) can.within can.are_places in (
-      record {
-        count = few.count;
-        longer = (let l = few.longer in omega (arith, l));
-        within = few.within;
-        places = few.others;
-        are_places = few.are_places;
-        none = sym (refused_take ps few.others words (suc n) (omega arith)) ∙ ap (λ l. refused_word ps l words) few.same ∙ refused_take ps can.places words (suc n) (omega arith) ∙ can.none;
-        here = sym (slice_get_take n (suc n) few.others (omega arith)) ∙ ap (λ l. slice_get l n) few.same ∙ slice_get_take n (suc n) can.places (omega arith) ∙ can.here;
-      },
-      few.small,
-    )
+pub slice_get_take : (k : ℕ) (l : List ℕ) (n : ℕ) → n < k → slice_get (take k l) n ≡ slice_get l n
+slice_get_take zero l n small = absurd (omega (arith, small))
+slice_get_take (suc k) [] n small = refl
+slice_get_take (suc k) (x ∷ l) zero small = refl
+slice_get_take (suc k) (x ∷ l) (suc n) small = slice_get_take k l n (omega (arith, small))

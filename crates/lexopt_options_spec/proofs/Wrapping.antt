@@ -1,6 +1,6 @@
 -- Words, put on lines one after another.
 use Rattle.std.proofs.Common.{◌≡◌, ◌≤◌, ◌<◌, ℕ, ◌+◌, ◌-◌, true, false, cond, nat_lt, List, [], ◌∷◌, ◌++◌, length, take, refl, sym, ap, subst, ◌∙◌, arith, inl, inr, append-nil, append_assoc, length-append, ltb-true, ltb-false, Bool, Bor, map, get_or}
-use Rattle.std.proofs.lemmas.List.{map-append, take_more, flat_map_more}
+use Rattle.std.proofs.lemmas.List.{map-append, map_more, take_more, flat_map_more}
 use Rattle.std.proofs.lemmas.List.Elements.{filter-append}
 use Rattle.std.proofs.lemmas.List.Sums.{sum_by-append}
 use Rattle.std.proofs.lemmas.Grind.{flat_map-append}
@@ -213,28 +213,26 @@ one_listed Is put before xs text x t l is = record {
   text_is = ap (λ bs. bs ++ put t) l.text_is ∙ flat_map_more put before l.texts t;
 }
 
+-- the elements that pass a test, with one more
+pub filtered_more : {O X : Type 0} (view : O → X) (all : List O) (i : ℕ) (d : O) → i < length all → (test : X → Bool) (b : Bool) → test (view (get_or all i d)) ≡ b
+    → filter test (map view (take (i + 1) all)) ≡ filter test (map view (take i all)) ++ cond b (view (get_or all i d) ∷ []) []
+filtered_more view all i d within test b is =
+    ap (filter test) (map_more view all i d within) ∙ filter-append test (map view (take i all)) (view (get_or all i d) ∷ [])
+    ∙ ap (λ (c : Bool). filter test (map view (take i all)) ++ cond c (view (get_or all i d) ∷ []) []) is
+
 module _ {O X : Type 0} (view : O → X) (Is : X → List ℕ → Type 0) (put : List ℕ → List ℕ) (before : List ℕ) (all : List O) (i : ℕ) (d : O) (text : List ℕ) (within : i < length all) where
-  viewed_more : map view (take (i + 1) all) ≡ map view (take i all) ++ view (get_or all i d) ∷ []
-  viewed_more = ap (map view) (take_more all i d within) ∙ map-append view (take i all) (get_or all i d ∷ [])
-
-  filtered_more : (test : X → Bool) (b : Bool) → test (view (get_or all i d)) ≡ b
-      → filter test (map view (take (i + 1) all)) ≡ filter test (map view (take i all)) ++ cond b (view (get_or all i d) ∷ []) []
-  filtered_more test b is =
-      ap (filter test) viewed_more ∙ filter-append test (map view (take i all)) (view (get_or all i d) ∷ [])
-      ∙ ap (λ (c : Bool). filter test (map view (take i all)) ++ cond c (view (get_or all i d) ∷ []) []) is
-
   -- one more
   pub listed_next : (t more : List ℕ) → Listed Is put before (map view (take i all)) text → Is (view (get_or all i d)) more → t ≡ text ++ put more
       → Listed Is put before (map view (take (i + 1) all)) t
   listed_next t more l is same =
-      subst (λ (xs : List X). Listed Is put before xs t) (sym viewed_more)
+      subst (λ (xs : List X). Listed Is put before xs t) (sym (map_more view all i d within))
       (subst (λ (bs : List ℕ). Listed Is put before (map view (take i all) ++ view (get_or all i d) ∷ []) bs) (sym same) (one_listed Is put before (map view (take i all)) text (view (get_or all i d)) more l is))
 
   -- one more that passes the test
   pub listed_kept : (test : X → Bool) (t more : List ℕ) → test (view (get_or all i d)) ≡ true → Listed Is put before (filter test (map view (take i all))) text → Is (view (get_or all i d)) more → t ≡ text ++ put more
       → Listed Is put before (filter test (map view (take (i + 1) all))) t
   listed_kept test t more passes l is same =
-      subst (λ (xs : List X). Listed Is put before xs t) (sym (filtered_more test true passes))
+      subst (λ (xs : List X). Listed Is put before xs t) (sym (filtered_more view all i d within test true passes))
       (subst (λ (bs : List ℕ). Listed Is put before (filter test (map view (take i all)) ++ view (get_or all i d) ∷ []) bs) (sym same)
       (one_listed Is put before (filter test (map view (take i all))) text (view (get_or all i d)) more l is))
 
@@ -242,4 +240,4 @@ module _ {O X : Type 0} (view : O → X) (Is : X → List ℕ → Type 0) (put :
   pub listed_left_out : (test : X → Bool) → test (view (get_or all i d)) ≡ false → Listed Is put before (filter test (map view (take i all))) text
       → Listed Is put before (filter test (map view (take (i + 1) all))) text
   listed_left_out test fails l =
-      subst (λ (xs : List X). Listed Is put before xs text) (sym (filtered_more test false fails ∙ append-nil (filter test (map view (take i all))))) l
+      subst (λ (xs : List X). Listed Is put before xs text) (sym (filtered_more view all i d within test false fails ∙ append-nil (filter test (map view (take i all))))) l

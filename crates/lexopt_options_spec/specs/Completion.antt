@@ -1,18 +1,17 @@
 -- What can come where a word is typed, after the words before it.
 -- The source is `docs/behaviour.md`.
-use Rattle.std.specs.Prelude.{◌≡◌, ◌≢◌, ◌<◌, ◌≤◌, ◌++◌, ℕ, length}
+use Rattle.std.specs.Prelude.{◌≡◌, ◌≢◌, ◌<◌, ◌≤◌, ◌⊎◌, ◌++◌, ◌==◌, ℕ, length, not}
 use Rattle.std.specs.Prelude.{Bool, true, false, nat_eq, List, [], ◌∷◌, map, Option, Some, None}
-use Rattle.std.specs.Prelude.{encode_utf8, filter, slice_get, unwrap_or}
+use Rattle.std.specs.Prelude.{encode_utf8, filter, if◌then◌else◌, slice_get, unwrap_or}
 use Rattle.std.specs.Char.{IsScalar}
+use Rattle.std.specs.Cmp.Lexicographic.{pointwise}
 use Rattle.std.specs.List.{Contains, flat_map, list_any, starts_with}
 use Rattle.std.specs.Option.{option_map}
 use Rattle.std.specs.Str.{IsUtf8}
 use Rattle.lexopt_spec.specs.UnreadLine.{dash, BeginsWith, IsPlain}
 use Rattle.lexopt_line_spec.specs.Table.{Name, short, long}
 use Rattle.lexopt_options_spec.specs.Declaration.{Declaration, Declared, has_name, index_of}
-use Rattle.lexopt_options_spec.specs.Declaration.{is_one_of, names_of}
-use Rattle.lexopt_options_spec.specs.Declaration.{Positional, Words, listed}
-use Rattle.lexopt_options_spec.specs.Help.{visible}
+use Rattle.lexopt_options_spec.specs.Declaration.{names_of, Positional, Words, listed}
 use Rattle.lexopt_options_spec.specs.Legal.{IsWithin, Parsed, Means, MeansFront, most, option}
 use Rattle.lexopt_options_spec.specs.Legal.{positional, positional_words, several}
 use Rattle.lexopt_options_spec.specs.Places.{ArePlaces, refused_word}
@@ -43,17 +42,45 @@ pub record CanOccur (d : Declaration) (words : List (List ℕ)) (s : List ℕ) :
   pub words_say : MeansFront d words before
   pub line_means : Means d (words ++ s ∷ rest) (before ++ parsed ∷ later)
 
--- an option that is not hidden has this name as its own
-abbrev pub is_shown : List Declared → Name → Bool
-is_shown options name = list_any (λ o. is_one_of (names_of o) name) (visible options)
+-- a spelling of an option
+pub record Spelled : Type 0 where
+  pub text : List ℕ
+  -- the help text of the option
+  pub help : List ℕ
+  -- it spells an own name of an option that is not hidden
+  pub shown : Bool
 
--- after these words, s can come where `typed` is typed, which is UTF-8, and it spells an own name
--- of an option that is not hidden
+-- the spellings of these names of an option
+abbrev pub spelled : List ℕ → Bool → List Name → List Spelled
+spelled help shown names =
+    map (λ n. record { text = spelling n; help = help; shown = shown }) names
+
+abbrev pub spelled_by : Declared → List Spelled
+spelled_by o = spelled o.help (not o.hidden) (names_of o) ++ spelled o.help false o.aliases
+
+-- the spellings of these options, in order
+abbrev pub spellings : List Declared → List Spelled
+spellings options = flat_map spelled_by options
+
+abbrev pub texts : List Spelled → List (List ℕ)
+texts list = map (λ s. s.text) list
+
+-- after these words, s can come where `typed` is typed, which is UTF-8: it begins so, and is shown,
+-- or is typed whole
 pub record Completes (d : Declaration) (words : List (List ℕ)) (typed s : List ℕ) : Type 0 where
   pub text : IsUtf8 typed
   pub begins : starts_with nat_eq s typed ≡ true
   pub possible : CanOccur d words s
-  pub shown : is_shown d.options possible.name ≡ true
+  pub shown : Contains (texts (filter (λ s. s.shown) (spellings d.options))) s ⊎ (s ≡ typed)
+
+-- this spelling of an option that can come is offered where this is typed
+abbrev pub is_offered : List ℕ → Spelled → Bool
+is_offered typed s =
+    if s.shown then starts_with nat_eq s.text typed else pointwise ◌==◌ s.text typed
+
+-- those of these spellings that are offered where this is typed, each with its help text
+abbrev pub offered : List ℕ → List Spelled → List (List ℕ × List ℕ)
+offered typed list = map (λ s. (s.text, s.help)) (filter (is_offered typed) list)
 
 -- ---- where an option can come
 
@@ -62,18 +89,6 @@ pub record Completes (d : Declaration) (words : List (List ℕ)) (typed s : List
 pub record IsOpen (d : Declaration) (words : List (List ℕ)) (l : List Parsed) : Type 0 where
   pub front : MeansFront d words l
   pub with_separator : MeansFront d (words ++ (dash ∷ dash ∷ []) ∷ []) l
-
--- the spellings of these options, in order
-abbrev pub spellings : List Declared → List (List ℕ)
-spellings options = flat_map (λ o. map spelling (names_of o)) options
-
--- the spellings of an option, each with the help text of the option
-abbrev pub explained_by : Declared → List (List ℕ × List ℕ)
-explained_by o = map (λ n. (spelling n, o.help)) (names_of o)
-
--- the spellings of the options that are not hidden, each with its help text, in order
-abbrev pub explained : List Declared → List (List ℕ × List ℕ)
-explained options = flat_map explained_by (visible options)
 
 -- a name is text, as a `char` or a `&str` is
 abbrev pub IsText : Name → Type 0

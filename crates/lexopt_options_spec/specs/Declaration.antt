@@ -45,7 +45,7 @@ pub record Declared : Type 0 where
   pub asks : Option Asked
   -- its heading in the help; empty if it has none
   pub heading : List ℕ
-  -- the help leaves it out, completion does not offer it, and no hint has its name
+  -- the help leaves it out, no hint has its name, and it is offered only where it is typed whole
   pub hidden : Bool
   -- every legal line has it
   pub required : Bool
@@ -53,7 +53,7 @@ pub record Declared : Type 0 where
   pub words : Words
   -- the help leaves out the list of its values
   pub hides_list : Bool
-  -- further names, by which lines may have it, and which nothing shows
+  -- further names, by which lines may have it, and which are offered only where they are typed whole
   pub aliases : List Name
 
 -- how often a positional may occur

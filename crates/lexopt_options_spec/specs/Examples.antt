@@ -88,3 +88,9 @@ joined_after index before = Some (record { index = index; before = before })
 abbrev pub explained_options : List Declared
 explained_options = record (option_of (Some (codes "mode")) files) { help = codes "how fast" }
     ∷ record (option_of None files) { help = codes "what else" } ∷ []
+
+-- the first of two options is hidden
+abbrev pub hidden_options : List Declared
+hidden_options =
+    record (option_of (Some (codes "mode")) files) { help = codes "how fast"; hidden = true }
+    ∷ option_of None files ∷ []

@@ -55,8 +55,8 @@ pub fn usage_lines_have_these_words()
         (record voluntary_option { hidden = true } ∷ []) []) ≡ codes "pack" ∷ [] }
 {}
 
-/// The first text that a program gives for its usage stands in place of the words that are
-/// generated, even if it is empty.
+/// The first text that a program gives for its usage replaces the words that are generated, even if
+/// it is empty.
 pub fn usage_lines_are_given()
     ensures none { first_usage (declaration_of (voluntary_option ∷ []) []) []
         ≡ codes "pack" ∷ codes "[OPTION]..." ∷ [] }

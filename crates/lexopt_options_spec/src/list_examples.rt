@@ -1,12 +1,14 @@
 //! Worked examples of lists of values, which the definitions compute.
 ghost use Rattle.std.specs.Prelude.{◌≡◌, ◌∷◌, [], None, Some, codes, false, true};
-ghost use Rattle.lexopt_options_spec.specs.Completion.{argument, explained, offered_values, value};
+ghost use Rattle.lexopt_options_spec.specs.Completion.{argument, offered, offered_values, spellings};
+ghost use Rattle.lexopt_options_spec.specs.Completion.{value};
 ghost use Rattle.lexopt_options_spec.specs.Declaration.{IsFirstBadList, accepts, are_listable};
 ghost use Rattle.lexopt_options_spec.specs.Declaration.{bad_list};
 ghost use Rattle.lexopt_options_spec.specs.Declaration.{directories, files, list_fault, listed, text};
-ghost use Rattle.lexopt_options_spec.specs.Examples.{explained_options, joined_after};
+ghost use Rattle.lexopt_options_spec.specs.Examples.{explained_options, hidden_options};
+ghost use Rattle.lexopt_options_spec.specs.Examples.{joined_after};
 ghost use Rattle.lexopt_options_spec.specs.Examples.{listed_positionals, lists};
-ghost use Rattle.lexopt_options_spec.specs.Examples.{option_of, positional_of};
+ghost use Rattle.lexopt_options_spec.specs.Examples.{positional_of};
 ghost use Rattle.lexopt_options_spec.specs.Places.{refused_word};
 
 /// With a list, exactly the values in it are accepted; without a list, all values are.
@@ -59,14 +61,18 @@ pub fn values_in_lists_are_offered()
     ensures nothing { offered_values lists [] None [] None ≡ [] }
 {}
 
-/// The spellings of the options that are not hidden, each with the help text of its option.
-pub fn spellings_are_explained()
-    ensures all { explained explained_options ≡ (codes "-m", codes "how fast")
+/// The spellings that are offered where something is typed, each with the help text of its option.
+pub fn spellings_are_offered()
+    ensures all { offered [] (spellings explained_options) ≡ (codes "-m", codes "how fast")
         ∷ (codes "--mode", codes "how fast") ∷ (codes "-m", codes "what else") ∷ [] }
-    ensures none { explained [] ≡ [] }
-    ensures hidden { explained (record (option_of (Some (codes "mode")) files) { hidden = true }
-        ∷ option_of None files ∷ []) ≡ (codes "-m", []) ∷ [] }
-    ensures hidden_alone { explained (record (option_of None files) { hidden = true } ∷ []) ≡ [] }
+    ensures none { offered [] (spellings []) ≡ [] }
+    ensures front { offered (codes "--m") (spellings explained_options)
+        ≡ (codes "--mode", codes "how fast") ∷ [] }
+    ensures hidden { offered [] (spellings hidden_options) ≡ (codes "-m", []) ∷ [] }
+    ensures front_of_a_hidden_option { offered (codes "--mod") (spellings hidden_options) ≡ [] }
+    ensures hidden_option { offered (codes "--mode") (spellings hidden_options)
+        ≡ (codes "--mode", codes "how fast") ∷ [] }
+    ensures more { offered (codes "--mode2") (spellings hidden_options) ≡ [] }
 {}
 
 /// The words that have a value in a list after what was typed before it.

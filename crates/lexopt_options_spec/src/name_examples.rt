@@ -1,7 +1,7 @@
 //! Worked examples of the further names of options, which the definitions compute.
 ghost use Rattle.std.specs.Prelude.{◌≡◌, ◌∷◌, [], None, Some, codes};
 ghost use Rattle.lexopt_line_spec.specs.Table.{long, short};
-ghost use Rattle.lexopt_options_spec.specs.Completion.{explained};
+ghost use Rattle.lexopt_options_spec.specs.Completion.{offered, spellings};
 ghost use Rattle.lexopt_options_spec.specs.Declarable.{fault_beside};
 ghost use Rattle.lexopt_options_spec.specs.Declaration.{bad_placeholder, dash_name, empty_name};
 ghost use Rattle.lexopt_options_spec.specs.Declaration.{equals_in_name, index_of, same_name, table};
@@ -25,10 +25,14 @@ pub fn further_names_are_read()
     } }
 {}
 
-/// Nothing shows them.
+/// Nothing shows them, but they are offered where they are typed whole.
 pub fn further_names_are_not_shown()
     ensures help { label color ≡ codes "    --color[=WHEN]" }
-    ensures completion { explained (color ∷ []) ≡ (codes "--color", []) ∷ [] }
+    ensures completion { offered (codes "--col") (spellings (color ∷ []))
+        ≡ (codes "--color", []) ∷ [] }
+    ensures whole { offered (codes "--colour") (spellings (color ∷ [])) ≡ (codes "--colour", []) ∷ [] }
+    ensures whole_character { offered (codes "-C") (spellings (color ∷ [])) ≡ (codes "-C", []) ∷ [] }
+    ensures dash { offered (codes "-") (spellings (color ∷ [])) ≡ (codes "--color", []) ∷ [] }
     ensures hints { long_names (color ∷ []) ≡ codes "color" ∷ [] }
 {}
 

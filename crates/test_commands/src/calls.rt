@@ -3,8 +3,8 @@
 use crate::git::{Flag, Task, Value, git};
 use lexopt_commands::{Command, CommandLine, Commands, Step, declare_commands};
 use lexopt_options::{
-    Declaration, Line, Mistake, Names, Options, OsString, Refused, Request, complete_rest, declare,
-    read_rest,
+    Declaration, Line, Mistake, Names, Options, OsString, Refused, Request, RestStart,
+    complete_rest, declare, read_rest,
 };
 use std::alloc::{AllocError, Global};
 use std::convert::Infallible;
@@ -176,7 +176,7 @@ pub fn text_of_step<K: Debug>(
 // What a line with a rest means, as `Debug` writes it, and the rest; the request; or what was read
 // before the mistake, and its message.
 fn text_of_rest(alloc: Global, words: Vec<OsString>) -> Result<String, AllocError> {
-    let (line, rest) = read_rest(alloc, &git().options(), words)?;
+    let (line, rest) = read_rest(alloc, &git().options(), RestStart::Surplus, words)?;
     match line {
         Line::Parsed(parsed) => format!(in alloc; "{parsed:?}, then {rest:?}"),
         Line::Asked(asked) => format!(in alloc; "{asked:?}"),
@@ -189,7 +189,7 @@ fn text_of_rest(alloc: Global, words: Vec<OsString>) -> Result<String, AllocErro
 // How the last of these words is completed, as `Debug` writes it.
 fn text_of_completion(alloc: Global, mut words: Vec<OsString>) -> Result<String, AllocError> {
     let typed = words.pop().unwrap_or(OsString::new(alloc));
-    let completion = complete_rest(alloc, &git().options(), words, &typed)?;
+    let completion = complete_rest(alloc, &git().options(), RestStart::Surplus, words, &typed)?;
     format!(in alloc; "{completion:?}")
 }
 

@@ -1,16 +1,25 @@
-//! Reads lines by five declarations, and completes words. The script `compare` beside `src` does the
-//! same by a plain reader, and compares.
+//! Reads lines by five declarations, completes words, and prints the help. The script `compare`
+//! beside `src` does the same by a plain reader, and compares.
 //!
-//! Each line of standard input is a case: the digit of a declaration; `r` to read a line, or `c` to
-//! complete its last word; and then each word after a space. The output for a case is a line. It has
-//! what is read, with its keys; what is asked for; or the mistake and what was read before it. For
-//! a completion it has the spellings, the values, what another word is there, the positionals that
-//! it can belong to, and the option whose value is typed in the word.
+//! Each line of standard input is a case: the digit of a declaration, a letter, and then each word
+//! after a space. The output for a case is a line. The letter says what is done:
+//!
+//! - `r` reads a line. The output has what is read, with its keys; what is asked for; or the mistake
+//!   and what was read before it.
+//! - `c` completes the last word. The output has the spellings, the values, what another word is
+//!   there, the positionals that it can belong to, and the option whose value is typed in the word.
+//! - `R` reads a line that may have a rest, which begins with a surplus positional, and `S` one whose
+//!   rest begins after the separator. The output has the rest too.
+//! - `C` and `D` complete the last word of such a line. The output has the rest of the words before
+//!   it, or the lines that a script of a shell reads, and whether the rest can begin there.
+//! - `h` makes the help for a width, which is the word.
 #![tactic(auto)]
 
 mod plans;
 
-use lexopt_options::{Completion, Line, OsString, Role};
+use lexopt_options::{
+    Completion, Line, OsString, RestCompletion, RestStart, Role, WIDTH, complete_rest, read_rest,
+};
 use plans::{Key, Place, PlanOptions, options_of};
 use std::alloc::{AllocError, Global};
 use std::io::{self, Read};
@@ -72,20 +81,72 @@ fn read(alloc: Global, options: &PlanOptions, case: &[u8]) -> Result<String, All
     text_of_line(alloc, &line)
 }
 
-// The text of a word that is completed.
-fn complete(alloc: Global, options: &PlanOptions, case: &[u8]) -> Result<String, AllocError> {
+// The words of a case but the last, and the last.
+fn typed_of(alloc: Global, case: &[u8]) -> Result<(Vec<OsString>, OsString), AllocError> {
     let mut words = words_of(alloc, case)?;
     let typed = words.pop().unwrap_or(OsString::new(alloc));
+    Ok((words, typed))
+}
+
+// The text of a word that is completed.
+fn complete(alloc: Global, options: &PlanOptions, case: &[u8]) -> Result<String, AllocError> {
+    let (words, typed) = typed_of(alloc, case)?;
     let found = options.complete(alloc, words, &typed)?;
     text_of_completion(alloc, &found)
+}
+
+// The text of a line that may have a rest.
+fn read_with_rest(
+    alloc: Global,
+    options: &PlanOptions,
+    start: RestStart,
+    case: &[u8],
+) -> Result<String, AllocError> {
+    let (line, rest) = read_rest(alloc, options, start, words_of(alloc, case)?)?;
+    let text = text_of_line(alloc, &line)?;
+    format!(in alloc; "{text}; {rest:?}")
+}
+
+// The text of a word that is completed in a line that may have a rest.
+fn complete_with_rest(
+    alloc: Global,
+    options: &PlanOptions,
+    start: RestStart,
+    case: &[u8],
+) -> Result<String, AllocError> {
+    let (words, typed) = typed_of(alloc, case)?;
+    match complete_rest(alloc, options, start, words, &typed)? {
+        RestCompletion::Rest(rest) => format!(in alloc; "after {rest:?}"),
+        RestCompletion::Text { text, begins_rest } => {
+            format!(in alloc; "{text:?}; {begins_rest}")
+        }
+    }
+}
+
+// The help for a width.
+fn help(alloc: Global, options: &PlanOptions, case: &[u8]) -> Result<String, AllocError> {
+    let (_, word) = typed_of(alloc, case)?;
+    let width = word
+        .to_str()
+        .and_then(|text| text.parse().ok())
+        .unwrap_or(WIDTH);
+    let text = options.help(alloc, width)?;
+    format!(in alloc; "{text:?}")
 }
 
 // The output for a case.
 fn text_of(alloc: Global, case: &[u8]) -> Result<String, AllocError> {
     match case {
         [digit, letter, ..] => match options_of(*digit) {
-            Some(options) if *letter == b'r' => read(alloc, &options, case),
-            Some(options) => complete(alloc, &options, case),
+            Some(options) => match letter {
+                b'r' => read(alloc, &options, case),
+                b'c' => complete(alloc, &options, case),
+                b'R' => read_with_rest(alloc, &options, RestStart::Surplus, case),
+                b'C' => complete_with_rest(alloc, &options, RestStart::Surplus, case),
+                b'S' => read_with_rest(alloc, &options, RestStart::Separated, case),
+                b'D' => complete_with_rest(alloc, &options, RestStart::Separated, case),
+                _ => help(alloc, &options, case),
+            },
             None => String::from_str(alloc, "there is no such declaration"),
         },
         _ => Ok(String::new(alloc)),

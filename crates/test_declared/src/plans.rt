@@ -21,13 +21,14 @@ type Plan = Declaration<'static, Key, Key, Place, Key, Key>;
 
 pub type PlanOptions = Options<'static, Key, Key, Place, Key, Key>;
 
-// A required option with a list of values, and two positionals. The first may occur more than once,
-// and the second has a list of words.
+// A required option with a list of values and a heading, and two positionals. The first may occur
+// more than once, and the second has a list of words.
 static SOURCES: Plan = declare! {
     program: "sources",
     options: [
-        flag(Key::Verbose, Names::Both('v', "verbose"), ""),
+        flag(Key::Verbose, Names::Both('v', "verbose"), "tell more about what is done"),
         value(Key::User, Names::Both('u', "user"), "NAME", "")
+            .heading("Who does it")
             .one_of(&["u", "a"])
             .required(),
         help(Names::Both('h', "help")),
@@ -35,13 +36,13 @@ static SOURCES: Plan = declare! {
     positionals: [at_least_once(Place::First, "SOURCE"), once(Place::Second, "DEST").one_of(&["a", "u"])],
 };
 
-// Two required options, one with a short name only. No help is declared. The first positional,
-// which may be left out, has a list of words.
+// Two required options, one with a short name only, and an option with two aliases. No help is
+// declared. The first positional, which may be left out, has a list of words.
 static RENAME: Plan = declare! {
     program: "rename",
     options: [
         flag(Key::Extra, Names::Short('x'), "").required(),
-        flag(Key::Verbose, Names::Both('v', "verbose"), ""),
+        flag(Key::Verbose, Names::Short('v'), "").alias(Names::Both('e', "verbose")),
         value(Key::User, Names::Both('u', "user"), "NAME", "").hidden().required(),
     ],
     positionals: [
@@ -50,41 +51,45 @@ static RENAME: Plan = declare! {
     ],
 };
 
-// No required option, and one with several values. Two of three positionals have lists of words.
+// No required option, one with several values, and one with a short alias. Two of three positionals
+// have lists of words, one of which is hidden.
 static OPEN: Plan = declare! {
     program: "open",
     options: [
         values(Key::User, Names::Both('u', "user"), "NAME", ""),
         flag(Key::Verbose, Names::Both('v', "verbose"), ""),
         maybe(Key::Extra, Names::Short('x'), "MORE", ""),
-        help(Names::Long("help")),
+        help(Names::Long("help")).alias(Names::Short('h')),
     ],
     positionals: [
-        once(Place::First, "FILE").one_of(&["u", "a"]),
+        once(Place::First, "FILE", "what to open").one_of(&["u", "a"]).hide_list(),
         at_most_once(Place::Second, "SECOND").one_of(&["a"]),
         any_number(Place::Third, "REST"),
     ],
 };
 
-// The help, the version, and any number of positionals.
+// The help, the version, an option with a long alias, and any number of positionals.
 static ASKED: Plan = declare! {
     program: "asked",
     options: [
         version(Names::Both('v', "verbose"), "asked 1.0"),
         help(Names::Both('h', "help")),
-        maybe(Key::User, Names::Both('u', "user"), "NAME", ""),
+        maybe(Key::User, Names::Short('u'), "NAME", "").alias(Names::Long("user")),
     ],
     positionals: [any_number(Place::First, "FILE")],
 };
 
 // A required option with several values and one with an optional value, each with a list of values.
+// The first has a hidden list, and begins with a heading.
 static STRICT: Plan = declare! {
     program: "strict",
     options: [
-        maybe(Key::Verbose, Names::Both('v', "verbose"), "HOW", "")
+        maybe(Key::Verbose, Names::Both('v', "verbose"), "HOW", "Tell more.")
+            .heading("How")
             .one_of(&["1"])
+            .hide_list()
             .required(),
-        values(Key::User, Names::Both('u', "user"), "NAME", "")
+        values(Key::User, Names::Both('u', "user"), "NAME", "Who does it.")
             .one_of(&["a", "u"])
             .required(),
         help(Names::Both('h', "help")),

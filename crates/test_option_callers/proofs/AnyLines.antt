@@ -4,7 +4,7 @@ use Rattle.std.specs.declared.convert.Infallible.{Infallible}
 use Rattle.lexopt_options_spec.specs.Asking.{first_asked}
 use Rattle.lexopt_options_spec.specs.Declaration as spec
 use Rattle.lexopt_options_spec.specs.Declaration.{for_help, for_version}
-use Rattle.lexopt_options_spec.specs.Rest.{MeansBefore, before_rest, without_rest}
+use Rattle.lexopt_options_spec.specs.Rest.{MeansBefore, before_rest, without_rest, surplus}
 use Rattle.lexopt_options_spec.specs.Legal as legal
 use Rattle.lexopt_declaration.specs.Lookups.{help_names}
 use Rattle.lexopt_options.specs.declared.mistake.Mistake.{Mistake}
@@ -35,23 +35,23 @@ use Rattle.test_option_callers.specs.AnyCommands.{AskFirst, HaveMistake, IsAsked
 -- ---- a line that is read
 
 by_words : {C F V M S : Type 0} (o : Options F V Infallible M S) (commands : List (Command C)) (words : List (List ℕ)) (r : Refused F V Infallible M S) (m : Mistake) (l : List legal.Parsed) (rest : List (List ℕ))
-    → MeansBefore (declaration_of o) words l rest → first_asked (declaration_of o).options l ≡ None → AreParsedAs (options_of o) l r.before.items → IsMistake commands rest m → HaveMistake o commands words r m
+    → MeansBefore surplus (declaration_of o) words l rest → first_asked (declaration_of o).options l ≡ None → AreParsedAs (options_of o) l r.before.items → IsMistake commands rest m → HaveMistake o commands words r m
 by_words o commands words r m l rest means none are (missing_command names is named) = ((l, rest, means, none, are, is), named)
 by_words o commands words r m l rest means none are (unknown_command word own hints is hinted) = ((l, rest, means, none, are, is), hinted)
 
 -- what general options mean, and the rest after them
-means_so : {F V M S : Type 0} (o : Options F V Infallible M S) (words rest : List (List ℕ)) (parsed : _) → IsRestRead o words rest (front.Parsed parsed)
-    → (l : List legal.Parsed) × MeansBefore (declaration_of o) words l rest × (first_asked (declaration_of o).options l ≡ None) × AreParsedAs (options_of o) l parsed.items
+means_so : {F V M S : Type 0} (o : Options F V Infallible M S) (words rest : List (List ℕ)) (parsed : _) → IsRestRead surplus o words rest (front.Parsed parsed)
+    → (l : List legal.Parsed) × MeansBefore surplus (declaration_of o) words l rest × (first_asked (declaration_of o).options l ≡ None) × AreParsedAs (options_of o) l parsed.items
 means_so o words (word ∷ more) parsed (by_front before word2 more2 own split is) = (is.0, before_rest before word2 more2 split is.1, is.2, is.3)
-means_so o words [] parsed (by_all own none is) = (is.0, without_rest is.1, is.2, is.3)
+means_so o words [] parsed (by_all own none is) = (is.0, without_rest none is.1, is.2, is.3)
 means_so o words [] parsed (early own is) = absurd is
 
-asks_so : {F V M S : Type 0} (o : Options F V Infallible M S) (words rest : List (List ℕ)) (asked : Asked) → IsRestRead o words rest (front.Asked asked) → AskFirst (declaration_of o) words (asked_view asked)
+asks_so : {F V M S : Type 0} (o : Options F V Infallible M S) (words rest : List (List ℕ)) (asked : Asked) → IsRestRead surplus o words rest (front.Asked asked) → AskFirst (declaration_of o) words (asked_view asked)
 asks_so o words (word ∷ more) asked (by_front before word2 more2 own split is) = (before, word2 ∷ more2, split.words_are, is)
 asks_so o words [] asked (by_all own none is) = (words, [], sym (append-nil words), is)
 asks_so o words [] asked (early own is) = (words, [], sym (append-nil words), is)
 
-refused_so : {F V M S : Type 0} (o : Options F V Infallible M S) (words rest : List (List ℕ)) (r : Refused F V Infallible M S) → IsRestRead o words rest (front.Refused r) → (r.program.now ≡ (declaration_of o).program) × (r.help ≡ help_names (options_of o)) × RefusedFirst o words r
+refused_so : {F V M S : Type 0} (o : Options F V Infallible M S) (words rest : List (List ℕ)) (r : Refused F V Infallible M S) → IsRestRead surplus o words rest (front.Refused r) → (r.program.now ≡ (declaration_of o).program) × (r.help ≡ help_names (options_of o)) × RefusedFirst o words r
 refused_so o words (word ∷ more) r (by_front before word2 more2 own split is) = (is.program, is.help, (before, word2 ∷ more2, split.words_are, is))
 refused_so o words [] r (by_all own none is) = (is.program, is.help, (words, [], sym (append-nil words), is))
 refused_so o words [] r (early own is) = (is.0.program, is.0.help, (words, [], sym (append-nil words), is.0))

@@ -11,7 +11,7 @@ use Rattle.lexopt_commands.specs.declared.commands.Commands.{Commands}
 use Rattle.lexopt_commands.specs.declared.read.CommandLine.{CommandLine}
 use Rattle.lexopt_commands.specs.declared.read.CommandLine.TheVariants as line
 use Rattle.lexopt_commands.specs.Lines.{IsLineAfter, IsLineOf}
-use Rattle.lexopt_options_spec.specs.Rest.{MeansBefore}
+use Rattle.lexopt_options_spec.specs.Rest.{MeansBefore, surplus}
 use Rattle.lexopt_options.specs.declared.options.Options.{Options}
 use Rattle.lexopt_commands.specs.Meanings.{Meaning, command, help, meaning, missing, unknown}
 use Rattle.lexopt_commands.specs.Mistakes.{IsHint, IsMistake, unknown_command, missing_command}
@@ -109,5 +109,5 @@ unknown_line c o l rest words name typed it same none means are_hints of =
     subst (λ x. IsUnknown (options_of x) l name typed words it) same (is_unknown c l a.0 rest words name typed it means are_hints a.1 a.2)
 
 -- equal options read the same words in the same way
-pub of_options : {F V M S : Type 0} (o own : Options F V Infallible M S) (words : List (List ℕ)) (l : List legal.Parsed) (rest : List (List ℕ)) → o ≡ own → MeansBefore (declaration_of own) words l rest → MeansBefore (declaration_of o) words l rest
-of_options o own words l rest same means = subst (λ x. MeansBefore (declaration_of x) words l rest) (sym same) means
+pub of_options : {F V M S : Type 0} (o own : Options F V Infallible M S) (words : List (List ℕ)) (l : List legal.Parsed) (rest : List (List ℕ)) → o ≡ own → MeansBefore surplus (declaration_of own) words l rest → MeansBefore surplus (declaration_of o) words l rest
+of_options o own words l rest same means = subst (λ x. MeansBefore surplus (declaration_of x) words l rest) (sym same) means

@@ -5,7 +5,7 @@ use Rattle.std.specs.declared.convert.Infallible.{Infallible}
 use Rattle.lexopt_spec.specs.UnreadLine.{dash, IsPlain}
 use Rattle.lexopt_line_spec.proofs.Worked.{not_begins}
 use Rattle.lexopt_options_spec.specs.Declaration.{Declaration}
-use Rattle.lexopt_options_spec.specs.Rest.{HaveNoRest, IsSplit}
+use Rattle.lexopt_options_spec.specs.Rest.{HaveNoRest, IsSplit, surplus}
 use Rattle.lexopt_options_spec.proofs.OneRest.{one_rest}
 use Rattle.lexopt_options.specs.declared.options.Options.{Options}
 use Rattle.lexopt_options.specs.Answers.{IsCompletionText}
@@ -21,9 +21,9 @@ use Rattle.test_option_callers.specs.Tasks.{AreOffered, IsTaskAsked, IsWritten, 
 
 -- the place of the typed word, after these general options and these words
 placed_so : {F V M S : Type 0} (c : Commands Task F V M S) (o : Options F V Infallible M S) (words front more : List (List ℕ)) (word typed : List ℕ) (it : Step Task F V M S)
-    → c.options ≡ o → IsSplit (declaration_of o) words front word more → IsCompletionStep c words typed it → IsPlaced c typed (place c.commands.now (word ∷ more)) it
+    → c.options ≡ o → IsSplit surplus (declaration_of o) words front word more → IsCompletionStep c words typed it → IsPlaced c typed (place c.commands.now (word ∷ more)) it
 placed_so {F} {V} {M} {S} c o words front more word typed it same split is =
-    let own = subst (λ (x : Options F V Infallible M S). IsSplit (declaration_of x) words front word more) (sym same) split in ⊎_elim
+    let own = subst (λ (x : Options F V Infallible M S). IsSplit surplus (declaration_of x) words front word more) (sym same) split in ⊎_elim
     (λ (after : IsPlacedAfter c words typed it).
     subst (λ (r : List (List ℕ)). IsPlaced c typed (place c.commands.now r) it) (one_rest (declaration_of c.options) words after.front front after.word word after.more more after.split own).1 after.placed)
     (λ (un : IsUnplaced c words typed it). absurd (un.without_rest front word more own))
@@ -37,7 +37,7 @@ in_task c o words typed rest name task (step.Text text) same is = is
 in_task c o words typed rest name task (step.Refused refused) same is = is
 
 pub task_asked : {F V M S : Type 0} (c : Commands Task F V M S) (o : Options F V Infallible M S) (words front more own : List (List ℕ)) (word typed : List ℕ) (name : List ℕ) (task : Task) (it : Step Task F V M S)
-    → c.options ≡ o → place c.commands.now (word ∷ more) ≡ in_command name task own → IsSplit (declaration_of o) words front word more → IsCompletionStep c words typed it
+    → c.options ≡ o → place c.commands.now (word ∷ more) ≡ in_command name task own → IsSplit surplus (declaration_of o) words front word more → IsCompletionStep c words typed it
     → IsTaskAsked task ((declaration_of o).program ++ 0x20 ∷ name) own typed it
 task_asked c o words front more own word typed name task it same there split is =
     in_task c o words typed own name task it same (subst (λ x. IsPlaced c typed x it) there (placed_so c o words front more word typed it same split is))
@@ -48,7 +48,7 @@ written_at_help c typed (step.Text text) is = is
 written_at_help c typed (step.Refused refused) is = is
 
 pub names_written : {F V M S : Type 0} (c : Commands Task F V M S) (o : Options F V Infallible M S) (words front more : List (List ℕ)) (word typed : List ℕ) (it : Step Task F V M S) (text : List ℕ)
-    → c.options ≡ o → place c.commands.now (word ∷ more) ≡ at_help → flat_map (begun_line typed) c.commands.now ≡ text → IsSplit (declaration_of o) words front word more → IsCompletionStep c words typed it → IsWritten text it
+    → c.options ≡ o → place c.commands.now (word ∷ more) ≡ at_help → flat_map (begun_line typed) c.commands.now ≡ text → IsSplit surplus (declaration_of o) words front word more → IsCompletionStep c words typed it → IsWritten text it
 names_written c o words front more word typed it text same there are split is =
     let p = placed_so c o words front more word typed it same split is in
     subst (λ t. IsWritten t it) are (written_at_help c typed it (subst (λ x. IsPlaced c typed x it) there p))
@@ -59,7 +59,7 @@ written_nowhere c typed (step.Text text) is = is
 written_nowhere c typed (step.Refused refused) is = is
 
 pub nothing_written : {F V M S : Type 0} (c : Commands Task F V M S) (o : Options F V Infallible M S) (words front more : List (List ℕ)) (word typed : List ℕ) (it : Step Task F V M S)
-    → c.options ≡ o → place c.commands.now (word ∷ more) ≡ nowhere → IsSplit (declaration_of o) words front word more → IsCompletionStep c words typed it → IsWritten [] it
+    → c.options ≡ o → place c.commands.now (word ∷ more) ≡ nowhere → IsSplit surplus (declaration_of o) words front word more → IsCompletionStep c words typed it → IsWritten [] it
 nothing_written c o words front more word typed it same there split is =
     let p = placed_so c o words front more word typed it same split is in
     written_nowhere c typed it (subst (λ x. IsPlaced c typed x it) there p)
@@ -76,10 +76,10 @@ AreLines d words typed ps text = (lines : List (List ℕ)) × AllZip (tasks.IsLi
 
 -- any plain word would begin the rest after these words, or none would
 abbrev AnyBegins : Declaration → List (List ℕ) → Type 0
-AnyBegins d words = (word : List ℕ) → IsPlain false word → IsSplit d (words ++ word ∷ []) words word []
+AnyBegins d words = (word : List ℕ) → IsPlain false word → IsSplit surplus d (words ++ word ∷ []) words word []
 
 abbrev NoneBegins : Declaration → List (List ℕ) → Type 0
-NoneBegins d words = (word : List ℕ) → IsPlain false word → ¬ IsSplit d (words ++ word ∷ []) words word []
+NoneBegins d words = (word : List ℕ) → IsPlain false word → ¬ IsSplit surplus d (words ++ word ∷ []) words word []
 
 abbrev ArePlain : List (List ℕ × List ℕ) → Type 0
 ArePlain [] = Unit {0}
@@ -112,10 +112,10 @@ lines_so c words typed text are (false, none, is) =
 
 -- ---- where there is no rest after the general options
 
-unplaced : {F V M S : Type 0} (c : Commands Task F V M S) (o : Options F V Infallible M S) (words : List (List ℕ)) (typed : List ℕ) (it : Step Task F V M S) → c.options ≡ o → HaveNoRest (declaration_of o) words → IsCompletionStep c words typed it
+unplaced : {F V M S : Type 0} (c : Commands Task F V M S) (o : Options F V Infallible M S) (words : List (List ℕ)) (typed : List ℕ) (it : Step Task F V M S) → c.options ≡ o → HaveNoRest surplus (declaration_of o) words → IsCompletionStep c words typed it
     → IsUnplaced c words typed it
 unplaced {F} {V} {M} {S} c o words typed it same without is = ⊎_elim
-    (λ (after : IsPlacedAfter c words typed it). absurd (without after.front after.word after.more (subst (λ (x : Options F V Infallible M S). IsSplit (declaration_of x) words after.front after.word after.more) same after.split)))
+    (λ (after : IsPlacedAfter c words typed it). absurd (without after.front after.word after.more (subst (λ (x : Options F V Infallible M S). IsSplit surplus (declaration_of x) words after.front after.word after.more) same after.split)))
     (λ (un : IsUnplaced c words typed it). un)
     is
 
@@ -125,7 +125,7 @@ offered_so c words typed names own (step.Command key path call) lines is are = i
 offered_so c words typed names own (step.Text found) lines is are = (lines.0, lines.1, own, are, is ∙ ap (λ l. l ++ own) lines.2)
 offered_so c words typed names own (step.Refused refused) lines is are = is
 
-pub options_offered : {F V M S : Type 0} (c : Commands Task F V M S) (o : Options F V Infallible M S) (words : List (List ℕ)) (typed : List ℕ) (it : Step Task F V M S) → c.options ≡ o → HaveNoRest (declaration_of o) words
+pub options_offered : {F V M S : Type 0} (c : Commands Task F V M S) (o : Options F V Infallible M S) (words : List (List ℕ)) (typed : List ℕ) (it : Step Task F V M S) → c.options ≡ o → HaveNoRest surplus (declaration_of o) words
     → ((text : List ℕ) → IsNamesText c words typed text → AreLines (declaration_of c.options) words typed task_lines text) → IsCompletionStep c words typed it
     → AreOffered o words typed it
 options_offered {F} {V} {M} {S} c o words typed it same without so is =

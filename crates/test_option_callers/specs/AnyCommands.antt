@@ -8,7 +8,7 @@ use Rattle.lexopt_options_spec.specs.Asking.{first_asked}
 use Rattle.lexopt_options_spec.specs.Declaration as spec
 use Rattle.lexopt_options_spec.specs.Declaration.{for_help, for_version}
 use Rattle.lexopt_options_spec.specs.Asking as asking
-use Rattle.lexopt_options_spec.specs.Rest.{MeansBefore}
+use Rattle.lexopt_options_spec.specs.Rest.{MeansBefore, surplus}
 use Rattle.lexopt_options_spec.specs.Legal as legal
 use Rattle.lexopt_declaration.specs.declared.declaration.Declared.{Declared}
 use Rattle.lexopt_declaration.specs.Lookups.{help_names}
@@ -42,7 +42,7 @@ use Rattle.lexopt_commands.specs.Mistakes.{IsHint}
 abbrev pub MeanSo : {C F V M S : Type 0} → Options F V Infallible M S → List (Command C) → List (List ℕ)
     → List (Parsed F V Infallible M S) → Meaning C → Type 0
 MeanSo o commands words parsed what = (l : List legal.Parsed) × (rest : List (List ℕ))
-    × MeansBefore (declaration_of o) words l rest
+    × MeansBefore surplus (declaration_of o) words l rest
     × (first_asked (declaration_of o).options l ≡ None) × AreParsedAs (options_of o) l parsed
     × (meaning commands rest ≡ what)
 

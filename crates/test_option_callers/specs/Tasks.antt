@@ -8,7 +8,7 @@ use Rattle.lexopt_options_spec.specs.Declaration.{Count, Declaration, Positional
 use Rattle.lexopt_options_spec.specs.Declaration.{once}
 use Rattle.lexopt_options_spec.specs.Help.{IsEntry, IsOption, IsParagraph, IsUsage}
 use Rattle.lexopt_options_spec.specs.Help.{options_part, set_apart, visible}
-use Rattle.lexopt_options_spec.specs.Rest.{IsSplit}
+use Rattle.lexopt_options_spec.specs.Rest.{IsSplit, surplus}
 use Rattle.lexopt_options_spec.specs.Legal as legal
 use Rattle.lexopt_options_spec.specs.Nearest.{IsNearest, hinted_names}
 use Rattle.lexopt_declaration.specs.declared.declaration.Declared.{Declared}
@@ -100,7 +100,7 @@ task_lines = (codes "add", codes "+add\tadd files\n")
 
 -- the words are general options, and this name after them would be a positional
 abbrev pub CanCome : Declaration → List (List ℕ) → List ℕ → Type 0
-CanCome d words name = IsSplit d (words ++ name ∷ []) words name []
+CanCome d words name = IsSplit surplus d (words ++ name ∷ []) words name []
 
 abbrev pub IsLineOf : Declaration → List (List ℕ) → List ℕ → List ℕ × List ℕ → List ℕ → Type 0
 IsLineOf d words typed p line = (CanCome d words p.0 × (line ≡ begun typed p))

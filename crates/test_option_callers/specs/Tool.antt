@@ -1,12 +1,11 @@
 -- The tool that `declared.rt` declares, by the grammar and by plain data.
 use Rattle.std.specs.Prelude.{◌≡◌, ℕ, List, [], ◌∷◌, Option, Some, None, codes, Bool, true, false}
 use Rattle.std.specs.Prelude.{◌≢◌, ◌⊎◌, ◌++◌, ◌-◌, ◌==◌, ◌||◌, if◌then◌else◌, Contains, String}
-use Rattle.std.specs.Prelude.{encode_utf8, filter, length, nat_lt}
+use Rattle.std.specs.Prelude.{encode_utf8, length, nat_lt}
 use Rattle.std.specs.Global.{Global}
 use Rattle.std.specs.Str.{chars}
-use Rattle.std.specs.Prelude.{nat_eq}
 use Rattle.std.specs.Prelude.{map, slice_get, string_bytes}
-use Rattle.std.specs.List.{AllZip, flat_map, list_any, starts_with}
+use Rattle.std.specs.List.{AllZip, flat_map, list_any}
 use Rattle.lexopt_declaration.specs.declared.declaration.Names.{Names}
 use Rattle.lexopt_declaration.specs.declared.declaration.Names.TheVariants as names
 use Rattle.lexopt_declaration.specs.Scripts.{shell_script}
@@ -22,7 +21,7 @@ use Rattle.lexopt_options_spec.specs.Declaration.{Positional, directories, files
 use Rattle.lexopt_options_spec.specs.Asking.{AskFor, first_asked, parsed_before}
 use Rattle.lexopt_options_spec.specs.Completion as completion
 use Rattle.lexopt_options_spec.specs.Completion.{AreOwnersIn, Completes, HasRole, IsJoined}
-use Rattle.lexopt_options_spec.specs.Completion.{offered_values}
+use Rattle.lexopt_options_spec.specs.Completion.{Spelled, offered, offered_values}
 use Rattle.lexopt_options_spec.specs.Help.{IsHelp, Line as HelpLine, Wraps, below}
 use Rattle.lexopt_options_spec.specs.Legal as legal
 use Rattle.lexopt_options_spec.specs.Legal.{Means}
@@ -249,19 +248,26 @@ RestTells l rest others own = LineTells l own
 
 -- ---- completion of a typed word
 
--- each spelling of an option that is not hidden, and the help text of the option
-abbrev pub tool_spellings : List (List ℕ × List ℕ)
-tool_spellings = (codes "-v", codes "tell more") ∷ (codes "--verbose", codes "tell more")
-    ∷ (codes "-o", codes "write there") ∷ (codes "--output", codes "write there")
-    ∷ (codes "--color", codes "paint") ∷ (codes "-x", codes "leave out")
-    ∷ (codes "-h", codes "help") ∷ (codes "--help", codes "help")
-    ∷ (codes "--version", codes "version") ∷ (codes "-u", codes "for whom")
-    ∷ (codes "--user", codes "for whom") ∷ []
+-- a spelling with this help text, which is shown, and one that is offered where it is typed whole
+abbrev pub shown : List ℕ → List ℕ → Spelled
+shown text help = record { text = text; help = help; shown = true }
 
--- the spellings that begin with what was typed, in the order of the tool, or none
+abbrev pub unshown : List ℕ → List ℕ → Spelled
+unshown text help = record { text = text; help = help; shown = false }
+
+abbrev pub tool_spellings : List Spelled
+tool_spellings = shown (codes "-v") (codes "tell more") ∷ shown (codes "--verbose") (codes "tell more")
+    ∷ unshown (codes "-f") (codes "by force")
+    ∷ shown (codes "-o") (codes "write there") ∷ shown (codes "--output") (codes "write there")
+    ∷ shown (codes "--color") (codes "paint") ∷ unshown (codes "--colour") (codes "paint")
+    ∷ shown (codes "-x") (codes "leave out")
+    ∷ shown (codes "-h") (codes "help") ∷ shown (codes "--help") (codes "help")
+    ∷ shown (codes "--version") (codes "version") ∷ shown (codes "-u") (codes "for whom")
+    ∷ shown (codes "--user") (codes "for whom") ∷ []
+
+-- the spellings that are offered for what was typed, in the order of the tool, or none
 abbrev pub AreInOrder : List ℕ → List (List ℕ × List ℕ) → Type 0
-AreInOrder typed offered =
-    (offered ≡ filter (λ p. starts_with nat_eq p.0 typed) tool_spellings) ⊎ (offered ≡ [])
+AreInOrder typed those = (those ≡ offered typed tool_spellings) ⊎ (those ≡ [])
 
 -- the spellings without the help texts
 abbrev pub words_of : List (List ℕ × List ℕ) → List (List ℕ)

@@ -3,7 +3,7 @@
 ghost use Rattle.std.specs.Prelude.{◌≡◌, ◌∷◌, ℕ, [], IfOk, List, None, Some, slice_get, true};
 ghost use Rattle.lexopt_options_spec.specs.Asking.{first_asked};
 ghost use Rattle.lexopt_options_spec.specs.Declaration as spec;
-ghost use Rattle.lexopt_options_spec.specs.Rest.{MeansBefore};
+ghost use Rattle.lexopt_options_spec.specs.Rest.{MeansBefore, surplus};
 ghost use Rattle.lexopt_options_spec.specs.Legal as legal;
 ghost use Rattle.lexopt_options.specs.Answers.{IsRequestAnswer};
 ghost use Rattle.lexopt_options.specs.Declarations.{declaration_of, options_of};
@@ -28,13 +28,13 @@ pub fn read_line<'a, C: Copy, F: Copy, V: Copy, M: Copy, S: Copy>(
     ensures line { IfOk result (λ line.
         LineTells options.entry commands.now words.items line) }
     ensures asked { (l : List legal.Parsed) (rest : List (List ℕ)) (asked : spec.Asked)
-        → MeansBefore (declaration_of options.entry) words.items l rest
+        → MeansBefore surplus (declaration_of options.entry) words.items l rest
         → first_asked (declaration_of options.entry).options l ≡ Some asked
         → IfOk result (λ line. IsAskedFor asked line) }
     ensures named { (i : ℕ) (own : one.Command C) (key : C) (l : List legal.Parsed)
         (rest : List (List ℕ)) → slice_get commands.now i ≡ Some own
         → own.runs ≡ runs.Command key
-        → MeansBefore (declaration_of options.entry) words.items l (own.name.now ∷ rest)
+        → MeansBefore surplus (declaration_of options.entry) words.items l (own.name.now ∷ rest)
         → first_asked (declaration_of options.entry).options l ≡ None
         → IfOk result (λ line.
         IsNamed (options_of options.entry) l own.name.now key rest line) }

@@ -4,7 +4,7 @@
 ghost use Rattle.std.specs.Prelude.{◌≡◌, ◌∷◌, ◌++◌, [], ℕ, IfOk, List, MatchOption, None, codes};
 ghost use Rattle.std.specs.Prelude.{string_bytes, true};
 ghost use Rattle.lexopt_options_spec.specs.Asking.{first_asked};
-ghost use Rattle.lexopt_options_spec.specs.Rest.{HaveNoRest, IsSplit, MeansBefore};
+ghost use Rattle.lexopt_options_spec.specs.Rest.{HaveNoRest, IsSplit, MeansBefore, surplus};
 ghost use Rattle.lexopt_options_spec.specs.Legal as legal;
 ghost use Rattle.lexopt_options.specs.Declarations.{declaration_of, options_of};
 ghost use Rattle.lexopt_commands.specs.declared.command.Reason.TheVariants as reason;
@@ -53,38 +53,38 @@ pub fn read_tasks<'a, F: Copy, V: Copy, M: Copy, S: Copy>(
 ) -> Result<CommandLine<'a, Task, F, V, M, S>, AllocError>
     ensures command { (l : List legal.Parsed) (rest : List (List ℕ))
         → first_asked (declaration_of options.entry).options l ≡ None
-        → MeansBefore (declaration_of options.entry) words.items l (codes "remote" ∷ rest)
+        → MeansBefore surplus (declaration_of options.entry) words.items l (codes "remote" ∷ rest)
         → IfOk result (λ line. IsTask (options_of options.entry) l (codes "remote")
         task.Remote rest line) }
     ensures help_of_a_command { (l : List legal.Parsed)
         → first_asked (declaration_of options.entry).options l ≡ None
-        → MeansBefore (declaration_of options.entry) words.items l
+        → MeansBefore surplus (declaration_of options.entry) words.items l
         (codes "help" ∷ codes "remote" ∷ codes "add" ∷ [])
         → IfOk result (λ line. IsTask (options_of options.entry) l (codes "remote") task.Remote
         (codes "add" ∷ codes "--help" ∷ []) line) }
     ensures help_before_a_dash { (l : List legal.Parsed) (word : List ℕ) (rest : List (List ℕ))
         → first_asked (declaration_of options.entry).options l ≡ None
-        → MeansBefore (declaration_of options.entry) words.items l
+        → MeansBefore surplus (declaration_of options.entry) words.items l
         (codes "help" ∷ codes "remote" ∷ (codes "-" ++ word) ∷ rest)
         → IfOk result (λ line. IsTask (options_of options.entry) l (codes "remote") task.Remote
         (codes "--help" ∷ (codes "-" ++ word) ∷ rest) line) }
     ensures help_before_a_separator { (l : List legal.Parsed)
         → first_asked (declaration_of options.entry).options l ≡ None
-        → MeansBefore (declaration_of options.entry) words.items l
+        → MeansBefore surplus (declaration_of options.entry) words.items l
         (codes "help" ∷ codes "remote" ∷ codes "add" ∷ codes "--" ∷ codes "-x" ∷ [])
         → IfOk result (λ line. IsTask (options_of options.entry) l (codes "remote") task.Remote
         (codes "add" ∷ codes "--help" ∷ codes "--" ∷ codes "-x" ∷ []) line) }
     ensures help { (l : List legal.Parsed)
         → first_asked (declaration_of options.entry).options l ≡ None
-        → MeansBefore (declaration_of options.entry) words.items l (codes "help" ∷ [])
+        → MeansBefore surplus (declaration_of options.entry) words.items l (codes "help" ∷ [])
         → IfOk result (λ line. IsAsking line) }
     ensures missing { (l : List legal.Parsed)
         → first_asked (declaration_of options.entry).options l ≡ None
-        → MeansBefore (declaration_of options.entry) words.items l []
+        → MeansBefore surplus (declaration_of options.entry) words.items l []
         → IfOk result (λ line. IsMissing (options_of options.entry) l line) }
     ensures unknown { (l : List legal.Parsed) (rest : List (List ℕ))
         → first_asked (declaration_of options.entry).options l ≡ None
-        → MeansBefore (declaration_of options.entry) words.items l
+        → MeansBefore surplus (declaration_of options.entry) words.items l
         ((codes "remot" ++ 0xFF ∷ []) ∷ rest)
         → IfOk result (λ line. IsUnknown (options_of options.entry) l (codes "remot" ++ 0xFF ∷ [])
         (codes "remot" ++ 0xEF ∷ 0xBF ∷ 0xBD ∷ []) rest line) }
@@ -100,21 +100,21 @@ pub fn complete_tasks<'a, F: Copy, V: Copy, M: Copy, S: Copy>(
     typed: OsString,
 ) -> Result<Step<'a, Task, F, V, M, S>, AllocError>
     ensures command { (front rest : List (List ℕ))
-        → IsSplit (declaration_of options.entry) words.items front (codes "remote") rest
+        → IsSplit surplus (declaration_of options.entry) words.items front (codes "remote") rest
         → IfOk result (λ step. IsTaskAsked task.Remote
         ((declaration_of options.entry).program ++ codes " remote") rest typed step) }
     ensures help_of_a_command { (front rest : List (List ℕ))
-        → IsSplit (declaration_of options.entry) words.items front (codes "help")
+        → IsSplit surplus (declaration_of options.entry) words.items front (codes "help")
         (codes "remote" ∷ rest)
         → IfOk result (λ step. IsTaskAsked task.Remote
         ((declaration_of options.entry).program ++ codes " remote") rest typed step) }
     ensures help { (front : List (List ℕ))
-        → IsSplit (declaration_of options.entry) words.items front (codes "help") []
+        → IsSplit surplus (declaration_of options.entry) words.items front (codes "help") []
         → IfOk result (λ step. IsWritten (flat_map (begun typed) task_lines) step) }
     ensures unknown { (front rest : List (List ℕ))
-        → IsSplit (declaration_of options.entry) words.items front (codes "remo") rest
+        → IsSplit surplus (declaration_of options.entry) words.items front (codes "remo") rest
         → IfOk result (λ step. IsWritten [] step) }
-    ensures options { HaveNoRest (declaration_of options.entry) words.items
+    ensures options { HaveNoRest surplus (declaration_of options.entry) words.items
         → IfOk result (λ step. AreOffered options.entry words.items typed step) }
 {
     Commands::new(options, &TASKS).answer_request(alloc, Request::Completion(words, typed), 80)

@@ -9,6 +9,7 @@ ghost use Rattle.lexopt_options_spec.specs.Completion.{offered_values};
 ghost use Rattle.lexopt_options_spec.specs.Declaration as spec;
 ghost use Rattle.lexopt_options_spec.specs.Help.{IsHelp};
 ghost use Rattle.lexopt_options_spec.specs.Rest.{MeansBefore};
+ghost use Rattle.lexopt_options.specs.RestStarts.{start_view};
 ghost use Rattle.lexopt_options_spec.specs.Legal as legal;
 ghost use Rattle.lexopt_options_spec.specs.Legal.{Means};
 ghost use Rattle.lexopt_items.specs.Items.{table_view};
@@ -22,7 +23,7 @@ use lexopt_items::items::Table;
 use lexopt_option_table::table_of;
 use lexopt_options::{
     Answer, Completion, Count, Declaration, Declared, Kind, Line, Names, Options, OsString,
-    Positional, Request, Words, variable,
+    Positional, Request, RestStart, Words, variable,
 };
 use std::alloc::{AllocError, Global};
 
@@ -206,9 +207,10 @@ pub fn read_line(
     Options::new(&TOOL).read(alloc, words)
 }
 
-/// Reads a line of the tool that may have a rest.
+/// Reads a line of the tool that may have a rest, which begins so.
 pub fn read_rest(
     alloc: Global,
+    begins: RestStart,
     words: Vec<OsString>,
 ) -> Result<
     (
@@ -217,10 +219,11 @@ pub fn read_rest(
     ),
     AllocError,
 >
-    ensures { (l : List legal.Parsed) (rest : List (List ℕ)) → MeansBefore tool words.items l rest
+    ensures { (l : List legal.Parsed) (rest : List (List ℕ))
+        → MeansBefore (start_view begins) tool words.items l rest
         → IfOk result (λ found. RestTells l rest found.1.items found.0) }
 {
-    lexopt_options::read_rest(alloc, &Options::new(&TOOL), words)
+    lexopt_options::read_rest(alloc, &Options::new(&TOOL), begins, words)
 }
 
 /// What can complete a typed word after these words of a line of the tool.

@@ -1,8 +1,7 @@
-use Rattle.std.proofs.Common.{◌++◌, ◌∙◌, ◌∷◌, [], ap, map, string_bytes, arith}
+use Rattle.std.proofs.Common.{◌++◌, ◌∙◌, ◌∷◌, [], ap, map, string_bytes}
 use Rattle.std.proofs.lemmas.List.{map-append}
 use Rattle.lexopt_declaration.proofs.Marks.{mark_added, mark_passed}
 use Rattle.lexopt_declaration.proofs.help.add_required_marks.Goals.{then-is_demanded+in_ok-option_mark+in_ok-push, else-is_demanded}
-use Rattle.std.proofs.lemmas.Grind.{common_steps}
 use Rattle.lexopt_declaration.proofs.help.add_required_marks.Goals as goal
 
 pub loop-declared-preserved : goal.loop-declared-preserved
@@ -15,6 +14,3 @@ loop-declared-preserved g c = elim c.if-is_demanded.branch [
       ap (λ m. map string_bytes m.items) w.marks-is
       ∙ mark_passed c.args.options.now c.loop-declared.declared-index c.declared-item.result c.is_demanded.result _ (map string_bytes c.loop-declared.marks.items) c.loop-declared-test.true c.declared-item.is c.is_demanded.ensures w.if-is_demanded.false c.loop-declared.invariant
 ]
-
-pub returns : goal.returns
-returns g c = grind (arith, common_steps)

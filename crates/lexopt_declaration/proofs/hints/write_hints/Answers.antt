@@ -1,6 +1,9 @@
+use Rattle.std.proofs.Common.{arith}
 use Rattle.std.proofs.Output.{has_written_of_eq}
+use Rattle.std.proofs.lemmas.Grind.{common_steps}
 use Rattle.lexopt_declaration.proofs.Hinted.{several_text}
 use Rattle.lexopt_declaration.proofs.hints.write_hints.Goals as goal
 
-pub returns-in_default : goal.returns-in_default
-returns-in_default g c = λ plain ok. has_written_of_eq _ _ _ _ _ (several_text c.args.dashes.now c.args.names.now c.in_default.len_at_least) (c.write_several.ensures plain ok)
+pub returns-in_ok-write_names-in_default : goal.returns-in_ok-write_names-in_default
+returns-in_ok-write_names-in_default g c = λ plain ok.
+    has_written_of_eq _ _ _ _ _ (several_text c.args.dashes.now c.args.names.now c.in_default.len_at_least) (grind (arith, common_steps))

@@ -1,10 +1,8 @@
-use Rattle.std.proofs.Common.{◌∙◌, sym}
+use Rattle.std.proofs.Common.{◌∙◌}
 use Rattle.lexopt_line_spec.specs.Table as table
-use Rattle.lexopt_declaration.proofs.OptionNames.{alias_index, own_index}
+use Rattle.lexopt_options_spec.specs.Declaration.{has_name}
+use Rattle.lexopt_declaration.proofs.Positions.{position_map}
 use Rattle.lexopt_declaration.proofs.lookup.index_of_short.Goals as goal
 
-pub returns-in-Some : goal.returns-in-Some
-returns-in-Some g c = own_index (table.short c.args.character) c.args.options.now c.in-Some.index c.requires (sym c.in-Some.is ∙ c.place_of_short.ensures)
-
-pub returns-in-None : goal.returns-in-None
-returns-in-None g c = c.place_of_alias.ensures ∙ alias_index (table.short c.args.character) c.args.options.now (sym c.in-None.is ∙ c.place_of_short.ensures)
+pub returns : goal.returns
+returns g c = c.place_of_short.ensures ∙ position_map (has_name (table.short c.args.character)) c.args.options.now

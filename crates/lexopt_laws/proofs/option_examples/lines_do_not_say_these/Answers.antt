@@ -4,7 +4,7 @@ use Rattle.lexopt_spec.specs.UnreadLine.{no_tail}
 use Rattle.lexopt_line_spec.specs.Table.{short, long, kind}
 use Rattle.lexopt_line_spec.proofs.Computing.{computing}
 use Rattle.lexopt_line_spec.proofs.Worked.{reads_first, reads_joined, reads_plain}
-use Rattle.lexopt_options_spec.specs.Stops.{StopsAt, unknown_option, unexpected_value, unexpected_argument, missing_argument, missing_option, invalid_argument, invalid_value, not_declared, value_of_flag, one_too_many, too_few}
+use Rattle.lexopt_options_spec.specs.Stops.{StopsAt, unknown_option, unexpected_value, unexpected_argument, missing_argument, not_declared, value_of_flag, one_too_many, too_few}
 use Rattle.lexopt_options_spec.specs.Legal.{option, positional}
 use Rattle.lexopt_options_spec.proofs.Fronts.{comes_to, no_front, nothing_parsed, one_front}
 use Rattle.lexopt_laws.specs.Sample.{sample, files, mode, target}
@@ -18,7 +18,7 @@ unfolding kind computing
 returns-clause-not_declared c l means =
     let stops : StopsAt (sample (files ∷ []) true) (codes "-z" ∷ []) [] (unknown_option (short 0x7A) no_tail) =
     at_first (not_declared (short 0x7A) _ (inl (reads_first _ 0x7A [] [] refl refl refl refl)) refl) in
-    no_front _ _ [] (unknown_option (short 0x7A) no_tail) (comes_to stops) (λ count same. let e : unknown_option (short 0x7A) no_tail ≡ missing_argument count = same in cc) (λ index same. let e : unknown_option (short 0x7A) no_tail ≡ missing_option index = same in cc) (λ index value same. let e : unknown_option (short 0x7A) no_tail ≡ invalid_value index value = same in cc) (λ index word same. let e : unknown_option (short 0x7A) no_tail ≡ invalid_argument index word = same in cc) l means
+    no_front _ _ [] (unknown_option (short 0x7A) no_tail) (comes_to stops) tt l means
 
 -- `--verbose=1`
 pub returns-clause-value_of_a_flag : goal.returns-clause-value_of_a_flag
@@ -27,8 +27,7 @@ returns-clause-value_of_a_flag c l means =
     let stops : StopsAt (sample (files ∷ []) true) (codes "--verbose=1" ∷ []) (option 0 None ∷ []) (unexpected_value (codes "--verbose") (codes "1")) =
     after_flag (long (codes "verbose")) 0 _ refl refl tt (inl (reads_joined _ (codes "verbose") (codes "1") [] refl refl refl refl))
     (value_of_flag (codes "--verbose") (codes "1") _ (inl (joined_value (codes "1") (codes "--verbose") refl refl refl refl))) in
-    no_front _ _ (option 0 None ∷ []) (unexpected_value (codes "--verbose") (codes "1")) (comes_to stops)
-    (λ count same. let e : unexpected_value (codes "--verbose") (codes "1") ≡ missing_argument count = same in cc) (λ index same. let e : unexpected_value (codes "--verbose") (codes "1") ≡ missing_option index = same in cc) (λ index value same. let e : unexpected_value (codes "--verbose") (codes "1") ≡ invalid_value index value = same in cc) (λ index word same. let e : unexpected_value (codes "--verbose") (codes "1") ≡ invalid_argument index word = same in cc) l means
+    no_front _ _ (option 0 None ∷ []) (unexpected_value (codes "--verbose") (codes "1")) (comes_to stops) tt l means
 
 -- `a b`
 pub returns-clause-one_too_many : goal.returns-clause-one_too_many
@@ -36,7 +35,7 @@ returns-clause-one_too_many c l means =
     let stops : StopsAt (sample (target ∷ []) true) (codes "a" ∷ codes "b" ∷ []) (positional (codes "a") ∷ []) (unexpected_argument (codes "b")) =
     after_positional (codes "a") _ (lit≤ tt) (inl (reads_plain _ (codes "a") (codes "b" ∷ []) refl refl refl refl))
     (one_too_many (codes "b") _ (inl (reads_plain _ (codes "b") [] refl refl refl refl)) refl) in
-    no_front _ _ (positional (codes "a") ∷ []) (unexpected_argument (codes "b")) (comes_to stops) (λ count same. let e : unexpected_argument (codes "b") ≡ missing_argument count = same in cc) (λ index same. let e : unexpected_argument (codes "b") ≡ missing_option index = same in cc) (λ index value same. let e : unexpected_argument (codes "b") ≡ invalid_value index value = same in cc) (λ index word same. let e : unexpected_argument (codes "b") ≡ invalid_argument index word = same in cc) l means
+    no_front _ _ (positional (codes "a") ∷ []) (unexpected_argument (codes "b")) (comes_to stops) tt l means
 
 -- `a`
 pub returns-clause-one_too_few : goal.returns-clause-one_too_few

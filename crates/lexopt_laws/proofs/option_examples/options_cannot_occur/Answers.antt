@@ -8,7 +8,7 @@ use Rattle.lexopt_line_spec.specs.Spelling.{separator}
 use Rattle.lexopt_line_spec.proofs.Computing.{computing}
 use Rattle.lexopt_line_spec.proofs.Worked.{reads_first, misses_values}
 use Rattle.lexopt_options_spec.specs.Legal.{MeansFront, are_accepted, option, positional}
-use Rattle.lexopt_options_spec.specs.Stops.{StopsAt, unknown_option, missing_value, missing_argument, missing_option, invalid_argument, invalid_value, not_declared, no_value}
+use Rattle.lexopt_options_spec.specs.Stops.{StopsAt, unknown_option, missing_value, not_declared, no_value}
 use Rattle.lexopt_options_spec.proofs.Fronts.{comes_to, no_front, one_front}
 use Rattle.lexopt_options_spec.proofs.Occurs.{occurs_accepted, occurs_open}
 use Rattle.lexopt_laws.specs.Sample.{sample, files, listed_options}
@@ -49,7 +49,7 @@ unfolding kind computing
 returns-clause-first_value_due c s possible =
     let stops : StopsAt (sample [] true) (codes "-x" ∷ []) [] (missing_value 3 (codes "-x")) =
     at_first (no_value (short 0x78) 3 (codes "-x") (values 1) _ _ (inl (reads_first _ 0x78 [] [] refl refl refl refl)) refl (1, refl) (inl (misses_values 1 _ refl refl))) in
-    no_front _ _ [] (missing_value 3 (codes "-x")) (comes_to stops) (λ count same. let e : missing_value 3 (codes "-x") ≡ missing_argument count = same in cc) (λ index same. let e : missing_value 3 (codes "-x") ≡ missing_option index = same in cc) (λ index value same. let e : missing_value 3 (codes "-x") ≡ invalid_value index value = same in cc) (λ index word same. let e : missing_value 3 (codes "-x") ≡ invalid_argument index word = same in cc) possible.before possible.words_say
+    no_front _ _ [] (missing_value 3 (codes "-x")) (comes_to stops) tt possible.before possible.words_say
 
 -- `-z`
 pub returns-clause-after_a_mistake : goal.returns-clause-after_a_mistake
@@ -57,7 +57,7 @@ unfolding kind computing
 returns-clause-after_a_mistake c s possible =
     let stops : StopsAt (sample [] true) (codes "-z" ∷ []) [] (unknown_option (short 0x7A) no_tail) =
     at_first (not_declared (short 0x7A) _ (inl (reads_first _ 0x7A [] [] refl refl refl refl)) refl) in
-    no_front _ _ [] (unknown_option (short 0x7A) no_tail) (comes_to stops) (λ count same. let e : unknown_option (short 0x7A) no_tail ≡ missing_argument count = same in cc) (λ index same. let e : unknown_option (short 0x7A) no_tail ≡ missing_option index = same in cc) (λ index value same. let e : unknown_option (short 0x7A) no_tail ≡ invalid_value index value = same in cc) (λ index word same. let e : unknown_option (short 0x7A) no_tail ≡ invalid_argument index word = same in cc) possible.before possible.words_say
+    no_front _ _ [] (unknown_option (short 0x7A) no_tail) (comes_to stops) tt possible.before possible.words_say
 
 -- `-mmedium`
 pub returns-clause-after_a_refused_value : goal.returns-clause-after_a_refused_value

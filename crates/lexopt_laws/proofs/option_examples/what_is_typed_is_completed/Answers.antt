@@ -1,7 +1,7 @@
 use Rattle.std.proofs.Common.{◌≡◌, [], ◌∷◌, true, false, codes, refl, sym, lit<, lit≤, true≢false}
 use Rattle.std.proofs.lemmas.Str.{IsUtf8-from_is_utf8}
 use Rattle.lexopt_line_spec.proofs.Computing.{computing}
-use Rattle.lexopt_options_spec.proofs.Offered.{shown_completes}
+use Rattle.lexopt_options_spec.proofs.Offered.{offered_completes}
 use Rattle.lexopt_laws.proofs.AnyWords.{any_filled}
 use Rattle.lexopt_laws.proofs.WorkedOpen as worked
 use Rattle.lexopt_laws.proofs.WorkedOpen.{hiding_named, hiding_text, sample_named, sample_text, not_completed, not_offered, no_utf8}
@@ -10,31 +10,35 @@ use Rattle.lexopt_laws.proofs.option_examples.what_is_typed_is_completed.Goals a
 
 pub returns-clause-front : goal.returns-clause-front
 unfolding computing
-returns-clause-front c = shown_completes _ _ _ (codes "--out") _ refl sample_text sample_named worked.at_the_start refl (any_filled refl refl (lit≤ tt)) (IsUtf8-from_is_utf8 (codes "--out") refl) refl (3, lit< tt, refl)
+returns-clause-front c = offered_completes _ _ _ (codes "--out") _ refl sample_text sample_named worked.at_the_start refl (any_filled refl refl (lit≤ tt)) (IsUtf8-from_is_utf8 (codes "--out") refl) (0, lit< tt, refl)
 
 pub returns-clause-whole : goal.returns-clause-whole
 unfolding computing
-returns-clause-whole c = shown_completes _ _ _ (codes "-v") _ refl sample_text sample_named worked.at_the_start refl (any_filled refl refl (lit≤ tt)) (IsUtf8-from_is_utf8 (codes "-v") refl) refl (0, lit< tt, refl)
+returns-clause-whole c = offered_completes _ _ _ (codes "-v") _ refl sample_text sample_named worked.at_the_start refl (any_filled refl refl (lit≤ tt)) (IsUtf8-from_is_utf8 (codes "-v") refl) (0, lit< tt, refl)
 
 pub returns-clause-nothing : goal.returns-clause-nothing
 unfolding computing
-returns-clause-nothing c = shown_completes _ _ _ [] _ refl sample_text sample_named worked.after_a_flag refl (any_filled refl refl (lit≤ tt)) (IsUtf8-from_is_utf8 [] refl) refl (5, lit< tt, refl)
+returns-clause-nothing c = offered_completes _ _ _ [] _ refl sample_text sample_named worked.after_a_flag refl (any_filled refl refl (lit≤ tt)) (IsUtf8-from_is_utf8 [] refl) (5, lit< tt, refl)
 
 pub returns-clause-required : goal.returns-clause-required
 unfolding computing
-returns-clause-required c = shown_completes _ _ _ (codes "--us") _ refl demanding_text demanding_named open_without_user refl (any_filled refl refl (lit≤ tt)) (IsUtf8-from_is_utf8 (codes "--us") refl) refl (9, lit< tt, refl)
+returns-clause-required c = offered_completes _ _ _ (codes "--us") _ refl demanding_text demanding_named open_without_user refl (any_filled refl refl (lit≤ tt)) (IsUtf8-from_is_utf8 (codes "--us") refl) (0, lit< tt, refl)
 
 pub returns-clause-beside_a_hidden_option : goal.returns-clause-beside_a_hidden_option
 unfolding computing
-returns-clause-beside_a_hidden_option c = shown_completes _ _ _ (codes "--") _ refl hiding_text hiding_named worked.before_hidden refl (any_filled refl refl (lit≤ tt)) (IsUtf8-from_is_utf8 (codes "--") refl) refl (1, lit< tt, refl)
+returns-clause-beside_a_hidden_option c = offered_completes _ _ _ (codes "--") _ refl hiding_text hiding_named worked.before_hidden refl (any_filled refl refl (lit≤ tt)) (IsUtf8-from_is_utf8 (codes "--") refl) (0, lit< tt, refl)
 
 pub returns-clause-hidden_option : goal.returns-clause-hidden_option
 unfolding computing
 returns-clause-hidden_option c is = not_completed _ _ _ (codes "--output") refl is
 
-pub returns-clause-hidden_character : goal.returns-clause-hidden_character
+pub returns-clause-front_of_a_hidden_option : goal.returns-clause-front_of_a_hidden_option
 unfolding computing
-returns-clause-hidden_character c is = not_completed _ _ _ (codes "-o") refl is
+returns-clause-front_of_a_hidden_option c is = not_completed _ _ _ (codes "--output") refl is
+
+pub returns-clause-whole_hidden_option : goal.returns-clause-whole_hidden_option
+unfolding computing
+returns-clause-whole_hidden_option c = offered_completes _ _ _ (codes "-o") _ refl hiding_text hiding_named worked.before_hidden refl (any_filled refl refl (lit≤ tt)) (IsUtf8-from_is_utf8 (codes "-o") refl) (0, lit< tt, refl)
 
 pub returns-clause-another : goal.returns-clause-another
 unfolding computing

@@ -1,7 +1,8 @@
-use Rattle.std.proofs.Common.{arith, ap, map, refl, subst, sym, ◌-◌, ◌<◌, ◌∙◌}
+use Rattle.std.proofs.Common.{arith, ap, get_or, map, refl, subst, sym, ◌-◌, ◌<◌, ◌∙◌}
+use Rattle.std.proofs.lemmas.List.{get_or_default}
 use Rattle.lexopt_declaration.specs.Models.{positional_view}
 use Rattle.lexopt_options_spec.specs.Places.{least}
-use Rattle.lexopt_options.proofs.Given.{after, all_given, all_same, counted, done_item, done_none, parsed_still, item_below, word_count}
+use Rattle.lexopt_options.proofs.Given.{after, all_given, counted, done_more, done_none, have_keys, parsed_still, word_below, word_count}
 use Rattle.lexopt_options.proofs.Owners.{first_keys}
 use Rattle.lexopt_options.proofs.places.give_all.Goals.{then-give_key, else-give_key}
 use Rattle.lexopt_options.proofs.places.give_all.Goals as goal
@@ -16,25 +17,29 @@ loop-own-init g c = done_none c.args.positionals.now (word_count c.args.parsed.n
 
 pub overflow_add-word : goal.overflow_add-word
 overflow_add-word g c =
-    let below = item_below c.args.positionals.now (word_count c.args.parsed.now) c.args.parsed.now c.loop-own.parsed c.loop-own.own-index c.loop-own.word c.own-item.result c.loop-own.invariant c.loop-own-test.true c.own-item.is
-    (sym c.give_key.ensures.kind ∙ c.if-give_key.true) in
+    let old = get_or c.loop-own.parsed c.loop-own.own-index c.own-item.result in
+    let below = word_below c.args.positionals.now (word_count c.args.parsed.now) c.args.parsed.now c.loop-own.parsed c.loop-own.own-index c.loop-own.word old c.loop-own.invariant c.loop-own-test.true
+    (get_or_default c.loop-own.parsed c.loop-own.own-index c.own-item.result old (omega (arith, c.loop-own.auto.parsed, c.loop-own-test.true))) (sym c.give_key.ensures.kind ∙ c.if-give_key.true) in
     omega (arith, below, c.count_of.ensures, counted c.args.parsed.now, c.count_of.type_inv)
 
 pub loop-own-preserved : goal.loop-own-preserved
 loop-own-preserved g c =
     let spare = c.spare_of-spare.ensures ∙ ap (λ n. n - least (map positional_view c.args.positionals.now)) (c.count_of.ensures ∙ counted c.args.parsed.now) in
-    done_item c.args.positionals.now (word_count c.args.parsed.now) c.args.parsed.now c.loop-own.parsed c.loop-own.own-index c.loop-own.word c.if-give_key.word c.own-item.result c.give_key.new.own c.give_key.result
-    c.loop-own.invariant c.loop-own-test.true c.loop-own.auto.parsed c.own-item.is refl c.give_key.ensures.kind c.give_key.ensures.same (λ places are. c.give_key.ensures.given places (word_count c.args.parsed.now) are spare)
+    let old = get_or c.loop-own.parsed c.loop-own.own-index c.own-item.result in
+    let old_is = get_or_default c.loop-own.parsed c.loop-own.own-index c.own-item.result old (omega (arith, c.loop-own.auto.parsed, c.loop-own-test.true)) in
+    done_more c.args.positionals.now (word_count c.args.parsed.now) c.args.parsed.now c.loop-own.parsed c.loop-own.own-index c.loop-own.word c.if-give_key.word old c.give_key.new.own c.give_key.result
+    c.loop-own.invariant c.loop-own-test.true c.loop-own.auto.parsed old_is refl c.give_key.ensures.kind c.give_key.ensures.same (λ places are. c.give_key.ensures.given places (word_count c.args.parsed.now) are spare)
     (elim c.if-give_key.branch [ then-give_key w ↦ w.word-is ∙ ap (λ b. after b c.loop-own.word) (sym w.if-give_key.true) | else-give_key w ↦ w.word-is ∙ ap (λ b. after b c.loop-own.word) (sym w.if-give_key.false) ])
 
 pub returns-clause-same : goal.returns-clause-same
 returns-clause-same g c = λ options l are.
-    parsed_still options l c.args.parsed.now c.loop-own.parsed (all_same c.args.positionals.now (word_count c.args.parsed.now) c.args.parsed.now c.loop-own.parsed c.loop-own.own-index c.loop-own.word c.loop-own.invariant c.loop-own.auto.parsed c.loop-own-test.false) are
+    parsed_still c.args.positionals.now (word_count c.args.parsed.now) 0 options l c.args.parsed.now c.loop-own.parsed
+    (all_given c.args.positionals.now (word_count c.args.parsed.now) c.args.parsed.now c.loop-own.parsed c.loop-own.own-index c.loop-own.word c.loop-own.invariant c.loop-own.auto.parsed c.loop-own-test.false) are
 
 pub returns-clause-keys : goal.returns-clause-keys
 returns-clause-keys g c = λ can.
-    all_given c.args.positionals.now (word_count c.args.parsed.now) c.args.parsed.now c.loop-own.parsed c.loop-own.own-index c.loop-own.word c.loop-own.invariant c.loop-own.auto.parsed c.loop-own-test.false
-    refl can.within
+    have_keys c.args.positionals.now c.args.parsed.now c.loop-own.parsed
+    (all_given c.args.positionals.now (word_count c.args.parsed.now) c.args.parsed.now c.loop-own.parsed c.loop-own.own-index c.loop-own.word c.loop-own.invariant c.loop-own.auto.parsed c.loop-own-test.false) can.within
 
 pub bounds-parsed-own-index : goal.bounds-parsed-own-index
 bounds-parsed-own-index g c = subst (λ n. c.loop-own.own-index < n) (sym c.loop-own.auto.parsed) c.loop-own-test.true

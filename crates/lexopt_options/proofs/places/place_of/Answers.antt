@@ -1,17 +1,15 @@
 use Rattle.std.proofs.Common.{arith, map, sym}
+use Rattle.std.proofs.lemmas.List.{length-map}
 use Rattle.lexopt_declaration.specs.Models.{positional_view}
-use Rattle.lexopt_options.proofs.Owners.{at_start, found_here, found_later, nothing_left, viewed, viewed_length}
+use Rattle.lexopt_options.proofs.Owners.{found_here, found_later, nothing_left, viewed}
 use Rattle.lexopt_options.proofs.places.place_of.Goals as goal
-
-pub loop-index-init : goal.loop-index-init
-loop-index-init g c = at_start (map positional_view c.args.positionals.now) c.args.spare c.args.word
 
 pub returns-then-left-needed : goal.returns-then-left-needed
 returns-then-left-needed g c =
     let rust = c.args.positionals.now in
     let k = c.loop-index.index in
     let item = c.index-positionals-index.result in
-    sym (found_here (map positional_view rust) c.args.spare c.args.word k c.loop-index.left c.loop-index.spare (positional_view item) c.loop-index.invariant (omega (arith, c.loop-index-test.true, viewed_length rust))
+    sym (found_here (map positional_view rust) c.args.spare c.args.word k c.loop-index.left c.loop-index.spare (positional_view item) c.loop-index.invariant (omega (arith, c.loop-index-test.true, length-map rust positional_view))
     (viewed rust k item c.loop-index-test.true c.index-positionals-index.is) (omega (arith, c.if-left-needed.true, c.needs-needed.ensures)))
 
 pub returns-then-left-more : goal.returns-then-left-more
@@ -19,7 +17,7 @@ returns-then-left-more g c =
     let rust = c.args.positionals.now in
     let k = c.loop-index.index in
     let item = c.index-positionals-index.result in
-    sym (found_here (map positional_view rust) c.args.spare c.args.word k c.loop-index.left c.loop-index.spare (positional_view item) c.loop-index.invariant (omega (arith, c.loop-index-test.true, viewed_length rust))
+    sym (found_here (map positional_view rust) c.args.spare c.args.word k c.loop-index.left c.loop-index.spare (positional_view item) c.loop-index.invariant (omega (arith, c.loop-index-test.true, length-map rust positional_view))
     (viewed rust k item c.loop-index-test.true c.index-positionals-index.is) (omega (arith, c.if-left-needed.false, c.if-left-more.true, c.needs-needed.ensures, c.extra-more.ensures)))
 
 pub loop-index-preserved : goal.loop-index-preserved
@@ -27,11 +25,11 @@ loop-index-preserved g c =
     let rust = c.args.positionals.now in
     let k = c.loop-index.index in
     let item = c.index-positionals-index.result in
-    found_later (map positional_view rust) c.args.spare c.args.word k c.loop-index.left c.loop-index.spare _ _ (positional_view item) c.loop-index.invariant (omega (arith, c.loop-index-test.true, viewed_length rust))
+    found_later (map positional_view rust) c.args.spare c.args.word k c.loop-index.left c.loop-index.spare _ _ (positional_view item) c.loop-index.invariant (omega (arith, c.loop-index-test.true, length-map rust positional_view))
     (viewed rust k item c.loop-index-test.true c.index-positionals-index.is) (omega (arith, c.if-left-needed.false, c.if-left-more.false, c.needs-needed.ensures, c.extra-more.ensures))
     (omega (arith, c.needs-needed.ensures, c.extra-more.ensures)) (omega (arith, c.extra-more.ensures))
 
 pub returns : goal.returns
 returns g c =
     let rust = c.args.positionals.now in
-    sym (nothing_left (map positional_view rust) c.args.spare c.args.word c.loop-index.left c.loop-index.spare c.loop-index.index (omega (arith, c.loop-index-test.false, viewed_length rust)) c.loop-index.invariant)
+    sym (nothing_left (map positional_view rust) c.args.spare c.args.word c.loop-index.left c.loop-index.spare c.loop-index.index (omega (arith, c.loop-index-test.false, length-map rust positional_view)) c.loop-index.invariant)

@@ -1,37 +1,34 @@
-use Rattle.std.proofs.Common.{◌≡◌, ◌++◌, ◌∷◌, ◌∙◌, [], List, None, add-zero, refl, string_bytes, subst, sym}
+use Rattle.std.proofs.Common.{◌≡◌, ◌++◌, ◌∷◌, [], List, None, refl, string_bytes, subst, sym}
 use Rattle.lexopt_spec.specs.Steps.{Next}
 use Rattle.lexopt_line_spec.specs.Readings.{start}
 use Rattle.lexopt_options_spec.specs.Asking.{first_asked}
 use Rattle.lexopt_options_spec.specs.Legal as legal
-use Rattle.lexopt_options_spec.specs.Legal.{IsWithin}
 use Rattle.lexopt_options_spec.specs.Stops as stops
 use Rattle.lexopt_options_spec.proofs.Listed.{accepted_append}
 use Rattle.lexopt_base.specs.Refusals.{refusal_reply}
 use Rattle.lexopt_options.specs.Declarations.{declaration_of, options_of}
 use Rattle.lexopt_options.specs.Keys.{AreParsedAs}
 use Rattle.lexopt_options.proofs.ReadKeys.{asks_alone, one_unrefused}
-use Rattle.lexopt_options.proofs.ReadNext.{count_more, never_missing, one_more}
+use Rattle.lexopt_options.proofs.ReadNext.{never_missing, one_more}
 use Rattle.lexopt_options.proofs.WholeLines.{last_dropped}
 use Rattle.lexopt_options.proofs.read.ask.Goals as goal
 
 pub returns-in-Ok : goal.returns-in-Ok
-returns-in-Ok g c = λ words limit u count seen parsed s had reads counts_is unrefused asks.
-    let d = declaration_of c.args.options.now in (
-      record {
-        before = had.l;
-        parsed = s;
-        there = c.args.parser.now;
-        read = one_more d (start d.short_equals words) u c.args.parser.now had.l count s had.read had.counted reads;
-        none_before = had.none;
-        accepted = accepted_append d.options had.l (s ∷ []) had.accepted (one_unrefused d.options s unrefused);
-        asks = asks;
-        no_value = λ o x v step. asks_alone c.args.parser.now c.advance.new.self c.in-Ok.field-0 c.in-Ok.ensures o x v step;
-      },
-      subst (λ n. IsWithin n limit) had.counted had.limited,
-    )
+returns-in-Ok g c = λ words begins u count seen parsed s had reads counts_is unrefused asks.
+    let d = declaration_of c.args.options.now in
+    record {
+      before = had.l;
+      parsed = s;
+      there = c.args.parser.now;
+      read = one_more d (start d.short_equals words) u c.args.parser.now had.l count s had.read had.counted reads;
+      none_before = had.none;
+      accepted = accepted_append d.options had.l (s ∷ []) had.accepted (one_unrefused d.options s unrefused);
+      asks = asks;
+      no_value = λ o x v step. asks_alone c.args.parser.now c.advance.new.self c.in-Ok.field-0 c.in-Ok.ensures o x v step;
+    }
 
 pub returns-in-UnexpectedValue : goal.returns-in-UnexpectedValue
-returns-in-UnexpectedValue g c = λ words limit u count seen parsed s had reads counts_is unrefused asks.
+returns-in-UnexpectedValue g c = λ words begins u count seen parsed s had reads counts_is unrefused asks.
     let d = declaration_of c.args.options.now in
     let step = subst (λ r. Next c.args.parser.now (refusal_reply r) c.advance.new.self) c.in-UnexpectedValue.is c.in-Err.ensures in (
       record {
@@ -49,7 +46,6 @@ returns-in-UnexpectedValue g c = λ words limit u count seen parsed s had reads 
         firsts = had.firsts;
       },
       tt,
-      subst (λ n. IsWithin n limit) (sym (add-zero count) ∙ count_more had.l count 0 s had.counted counts_is) had.limited,
     )
 
 pub unreachable-requires : goal.unreachable-requires

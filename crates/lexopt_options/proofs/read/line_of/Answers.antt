@@ -45,10 +45,10 @@ returns-in-Positional g c = λ words v ended.
     let read = rw c.in-Positional.is at ended in
     (c.refused_for-in-Positional.ensures words
     (stopped_with o _ words read.0 _ _ _ _ read.1 (stops.unexpected_argument c.in-Positional.word) refl (λ l. refl)
-    (stops.one_too_many c.in-Positional.word v read.2 (read.3 ∙ ap (λ n. Some n) read.1.counted)))).0
+    (stops.one_too_many c.in-Positional.word v read.2 (read.3 refl ∙ ap (λ n. Some n) read.1.counted)))).0
 
 pub returns-in-Asked : goal.returns-in-Asked
-returns-in-Asked g c = λ words v ended. (rw c.in-Asked.is at ended).0
+returns-in-Asked g c = λ words v ended. rw c.in-Asked.is at ended
 
 pub returns : goal.returns
 returns g c = λ words v ended. (c.refused_for-in-Mistake.ensures words (rw c.in-Mistake.is at ended).0).0

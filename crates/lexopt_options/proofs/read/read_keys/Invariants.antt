@@ -3,7 +3,7 @@ use Rattle.lexopt_options.specs.Reading.{HasRead}
 use Rattle.lexopt_options.proofs.read.read_keys.Given as goal
 
 abbrev pub invariant-loop-index : goal.invariant-loop-index
-invariant-loop-index g l = HasRead l.options l.limit l.initial.parser l.parser l.read.count l.read.seen.items l.read.parsed.items
+invariant-loop-index g l = HasRead l.options l.begins l.initial.parser l.parser l.read.count l.read.seen.items l.read.parsed.items
 
 abbrev pub decreases-loop-index : goal.decreases-loop-index
 decreases-loop-index g l = bound l.parser

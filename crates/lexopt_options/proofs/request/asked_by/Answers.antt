@@ -1,4 +1,4 @@
-use Rattle.std.proofs.Common.{◌≡◌, ◌∙◌, None, Some, ap, refl, sym}
+use Rattle.std.proofs.Common.{◌∙◌, Some, ap}
 use Rattle.lexopt_declaration.specs.declared.shell.ShellRequest.TheVariants as asks
 use Rattle.lexopt_options.proofs.Asking.{completion_asked}
 use Rattle.lexopt_options.proofs.request.asked_by.Goals as goal
@@ -11,11 +11,3 @@ pub returns-in-Some-Completion : goal.returns-in-Some-Completion
 returns-in-Some-Completion c =
     completion_asked _ c.args.words.items c.in-Some-Completion.field-0-0 c.completion_of.result
     (ap (λ t. Some t) ((c.from_value.ensures (asks.Completion c.in-Some-Completion.field-0-0)).0 (c.in-Some-Completion.is ∙ ap (λ r. Some r) c.in-Some-Completion.field-0-is))) c.completion_of.ensures
-
-pub returns-in-None : goal.returns-in-None
-returns-in-None c = (
-  c.args.value.now,
-  refl,
-  c.requires,
-  (λ r same. let e : None ≡ Some r = sym c.in-None.is ∙ (c.from_value.ensures r).1 same in cc),
-)

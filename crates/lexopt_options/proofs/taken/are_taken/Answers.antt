@@ -1,13 +1,10 @@
 use Rattle.std.proofs.Common.{ap, arith, is_none, map, sym, ◌∙◌}
+use Rattle.std.proofs.lemmas.List.{drop_all}
 use Rattle.lexopt_declaration.specs.Models.{positional_view}
-use Rattle.lexopt_options_spec.specs.Places.{owners}
-use Rattle.lexopt_options_spec.specs.Places.{greedy}
-use Rattle.lexopt_options.proofs.TakenWords.{at_end, at_first, at_next, at_no_place, at_refused, none_left, takes_all, word_next}
+use Rattle.lexopt_options_spec.specs.Places.{greedy, owners}
+use Rattle.lexopt_options.proofs.TakenWords.{at_end, at_next, at_no_place, at_refused, takes_all, word_next}
 use Rattle.lexopt_options.proofs.taken.are_taken.Goals.{in-Some+else-not-takes_at, in_default}
 use Rattle.lexopt_options.proofs.taken.are_taken.Goals as goal
-
-pub loop-index-init : goal.loop-index-init
-loop-index-init g c = let ps = map positional_view c.args.positionals.now in at_first ps (owners 0 (greedy ps c.args.spare)) c.args.words.now
 
 pub returns-then-not-any_has_list : goal.returns-then-not-any_has_list
 returns-then-not-any_has_list g c =
@@ -34,4 +31,4 @@ loop-index-preserved g c =
 pub returns : goal.returns
 returns g c =
     let ps = map positional_view c.args.positionals.now in
-    sym (ap is_none (at_end ps (owners 0 (greedy ps c.args.spare)) _ _ c.loop-index.index c.loop-index.invariant (none_left c.args.words.now c.loop-index.index (omega (arith, c.loop-index-test.false)))))
+    sym (ap is_none (at_end ps (owners 0 (greedy ps c.args.spare)) _ _ c.loop-index.index c.loop-index.invariant (drop_all c.loop-index.index c.args.words.now (omega (arith, c.loop-index-test.false)))))

@@ -1,8 +1,8 @@
-use Rattle.std.proofs.Common.{arith, map, sym, ◌∙◌}
+use Rattle.std.proofs.Common.{arith, map, subst, sym, ◌∙◌}
 use Rattle.lexopt_declaration.specs.Models.{positional_view}
-use Rattle.lexopt_options_spec.specs.Places.{owners}
-use Rattle.lexopt_options_spec.specs.Places.{greedy}
-use Rattle.lexopt_options.proofs.TakenWords.{at_end, at_later, at_next, at_no_place, at_refused, at_same, parsed_no_word, parsed_past, parsed_word}
+use Rattle.lexopt_options_spec.specs.Places.{greedy, owners}
+use Rattle.lexopt_options.specs.Keys.{parsed_words}
+use Rattle.lexopt_options.proofs.TakenWords.{IsAt, at_end, at_next, at_no_place, at_refused, parsed_no_word, parsed_past, parsed_word}
 use Rattle.lexopt_options.proofs.taken.first_refusal.Goals.{in-Positional, in-Some+in_ok-mistake+in_default-2, in_default-place_of, in_default}
 use Rattle.lexopt_options.proofs.taken.first_refusal.Goals as goal
 
@@ -18,18 +18,19 @@ loop-own-preserved g c =
     let ps = map positional_view c.args.positionals.now in
     let places = owners 0 (greedy ps c.args.spare) in
     let k = c.loop-own.own-index in
+    let all = parsed_words c.args.parsed.now in
     let at = c.loop-own.invariant in
     elim c.match-own.branch [
       | in-Positional w ↦
           let word = parsed_word c.args.parsed.now k c.own-item.result w.in-Positional.field-0 w.in-Positional.word c.loop-own-test.true c.own-item.is w.in-Positional.is in
           elim w.match-place_of.branch [
             | in-Some+in_ok-mistake+in_default-2 v ↦
-                (omega (arith, w.index-is, at.0), at_same ps places _ _ _ _ (sym w.index-is) (at_next ps places _ _ _ w.in-Positional.word c.loop-own.index v.in-Some.place at.1 word (sym w.place_of.ensures ∙ v.in-Some.is) (rw v.in_default-2.is at v.in_ok-mistake.ensures)))
+                (omega (arith, w.index-is, at.0), subst (IsAt ps places all _) (sym w.index-is) (at_next ps places all _ _ w.in-Positional.word c.loop-own.index v.in-Some.place at.1 word (sym w.place_of.ensures ∙ v.in-Some.is) (rw v.in_default-2.is at v.in_ok-mistake.ensures)))
             | in_default-place_of v ↦
-                (omega (arith, w.index-is, at.0), at_same ps places _ _ _ _ (sym w.index-is) (at_no_place ps places _ _ _ w.in-Positional.word c.loop-own.index at.1 word (sym w.place_of.ensures ∙ v.in_default-place_of.is)))
+                (omega (arith, w.index-is, at.0), subst (IsAt ps places all _) (sym w.index-is) (at_no_place ps places all _ _ w.in-Positional.word c.loop-own.index at.1 word (sym w.place_of.ensures ∙ v.in_default-place_of.is)))
           ]
       | in_default w ↦
-          (omega (arith, w.index-is, at.0), at_same ps places _ _ _ _ (sym w.index-is) (at_later ps places _ _ _ c.loop-own.index at.1 (parsed_no_word c.args.parsed.now k c.own-item.result c.loop-own-test.true c.own-item.is (λ key word is. w.in_default.not-Positional key word is))))
+          (omega (arith, w.index-is, at.0), subst (IsAt ps places all _) (sym w.index-is) (subst (λ l. IsAt ps places all l c.loop-own.index) (parsed_no_word c.args.parsed.now k c.own-item.result c.loop-own-test.true c.own-item.is (λ key word is. w.in_default.not-Positional key word is)) at.1))
     ]
 
 pub returns : goal.returns

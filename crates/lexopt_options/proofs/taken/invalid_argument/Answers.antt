@@ -3,7 +3,7 @@ use Rattle.lexopt_declaration.specs.Models.{positional_view}
 use Rattle.lexopt_options.specs.Declarations.{positionals_of}
 use Rattle.lexopt_options.specs.Keys.{parsed_words}
 use Rattle.lexopt_options_spec.specs.Places.{least}
-use Rattle.lexopt_options.proofs.TakenWords.{all_taken, invalid_line, invalid_so, parsed_counted}
+use Rattle.lexopt_options.proofs.TakenWords.{all_taken, invalid_line, parsed_counted}
 use Rattle.lexopt_options.proofs.taken.invalid_argument.Goals as goal
 
 pub returns-then-not-has_lists : goal.returns-then-not-has_lists
@@ -13,6 +13,5 @@ pub returns : goal.returns
 returns g c =
     let ps = c.positionals-positionals.result.now in
     let ws = parsed_words c.args.parsed.now in
-    invalid_line c.args.options.now ps ws c.first_refusal.result c.positionals-positionals.ensures.same
-    (invalid_so ps ws c.spare_of.result c.first_refusal.result
-    (c.spare_of.ensures ∙ ap (λ n. n - least (map positional_view ps)) (c.count_of.ensures ∙ parsed_counted c.args.parsed.now)) c.first_refusal.ensures)
+    invalid_line c.args.options.now ps ws c.spare_of.result c.first_refusal.result c.positionals-positionals.ensures.view
+    (c.spare_of.ensures ∙ ap (λ n. n - least (map positional_view ps)) (c.count_of.ensures ∙ parsed_counted c.args.parsed.now)) c.first_refusal.ensures

@@ -1,7 +1,7 @@
 use Rattle.std.proofs.Common.{ap, arith, map, sym, ◌+◌, ◌∙◌}
 use Rattle.std.proofs.lemmas.Bool.{false≢true}
+use Rattle.std.proofs.lemmas.List.{length-map}
 use Rattle.lexopt_declaration.specs.Models.{positional_view}
-use Rattle.lexopt_options.proofs.Owners.{viewed_length}
 use Rattle.lexopt_options.proofs.TakenWords.{all_owners, no_owners, not_owner, one_owner, owners_are}
 use Rattle.lexopt_options.proofs.taken.owners_of.Goals.{then-can_own+in_ok-push, else-can_own}
 use Rattle.lexopt_options.proofs.taken.owners_of.Goals as goal
@@ -20,4 +20,4 @@ loop-index-preserved g c =
     ]
 
 pub returns : goal.returns
-returns g c = all_owners (map positional_view c.args.positionals.now) c.args.words.now c.loop-index.index c.loop-index.owners.items c.loop-index.invariant (omega (arith, c.loop-index-test.false, viewed_length c.args.positionals.now))
+returns g c = all_owners (map positional_view c.args.positionals.now) c.args.words.now c.loop-index.index c.loop-index.owners.items c.loop-index.invariant (omega (arith, c.loop-index-test.false, length-map c.args.positionals.now positional_view))

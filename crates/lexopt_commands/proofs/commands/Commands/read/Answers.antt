@@ -1,6 +1,7 @@
 use Rattle.std.proofs.Common.{◌∷◌, inl, inr, subst}
 use Rattle.lexopt_options_spec.specs.Asking.{first_asked}
 use Rattle.lexopt_options.specs.Declarations.{declaration_of}
+use Rattle.lexopt_options_spec.specs.Rest.{surplus}
 use Rattle.lexopt_options.specs.RestLines.{IsRestRead}
 use Rattle.std.proofs.lemmas.Result.{IfOk-weaker}
 use Rattle.lexopt_commands.proofs.LinesRead.{none_asked, of_asked, of_each, of_name, of_parsed}
@@ -9,18 +10,18 @@ use Rattle.lexopt_commands.proofs.commands.Commands.read.Goals as goal
 pub returns-in-Parsed-clause-line : goal.returns-in-Parsed-clause-line
 returns-in-Parsed-clause-line g c =
     let s = c.args.self.now in
-    let read = subst (IsRestRead s.options c.args.words.items c.in_ok-line.rest.items) c.in-Parsed.is (subst (λ o. IsRestRead o c.args.words.items c.in_ok-line.rest.items c.in_ok-line.line) c.options.ensures.same c.in_ok-line.ensures.read) in
+    let read = subst (IsRestRead surplus s.options c.args.words.items c.in_ok-line.rest.items) c.in-Parsed.is (subst (λ o. IsRestRead surplus o c.args.words.items c.in_ok-line.rest.items c.in_ok-line.line) c.options.ensures.same c.in_ok-line.ensures.read) in
     IfOk-weaker c.end.result _ _ (λ it after. inr (record { rest = c.in_ok-line.rest.items; parsed = c.in-Parsed.parsed; read = read; after = after })) c.end.ensures
 
 pub returns-in-Asked-clause-line : goal.returns-in-Asked-clause-line
 returns-in-Asked-clause-line g c =
     let s = c.args.self.now in
-    inl (c.in_ok-line.rest.items, subst (IsRestRead s.options c.args.words.items c.in_ok-line.rest.items) c.in-Asked.is (subst (λ o. IsRestRead o c.args.words.items c.in_ok-line.rest.items c.in_ok-line.line) c.options.ensures.same c.in_ok-line.ensures.read))
+    inl (c.in_ok-line.rest.items, subst (IsRestRead surplus s.options c.args.words.items c.in_ok-line.rest.items) c.in-Asked.is (subst (λ o. IsRestRead surplus o c.args.words.items c.in_ok-line.rest.items c.in_ok-line.line) c.options.ensures.same c.in_ok-line.ensures.read))
 
 pub returns-in-Refused-clause-line : goal.returns-in-Refused-clause-line
 returns-in-Refused-clause-line g c =
     let s = c.args.self.now in
-    inl (c.in_ok-line.rest.items, subst (IsRestRead s.options c.args.words.items c.in_ok-line.rest.items) c.in-Refused.is (subst (λ o. IsRestRead o c.args.words.items c.in_ok-line.rest.items c.in_ok-line.line) c.options.ensures.same c.in_ok-line.ensures.read))
+    inl (c.in_ok-line.rest.items, subst (IsRestRead surplus s.options c.args.words.items c.in_ok-line.rest.items) c.in-Refused.is (subst (λ o. IsRestRead surplus o c.args.words.items c.in_ok-line.rest.items c.in_ok-line.line) c.options.ensures.same c.in_ok-line.ensures.read))
 
 pub returns-in-Parsed-clause-answered : goal.returns-in-Parsed-clause-answered
 returns-in-Parsed-clause-answered g c = λ l rest means.

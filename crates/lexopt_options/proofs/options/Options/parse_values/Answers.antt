@@ -1,13 +1,15 @@
-use Rattle.std.proofs.Common.{List, ap, position, ◌∙◌}
+use Rattle.std.proofs.Common.{◌∙◌, Bool, ap, position, rules, subst, tests}
+use Rattle.std.proofs.lemmas.Iterator.{YieldsList-from_slice}
+use Rattle.std.proofs.lemmas.Iterator.Search.{position_from_yields_List}
 use Rattle.lexopt_declaration.specs.declared.declaration.Declared.{Declared}
 use Rattle.lexopt_declaration.specs.Lookups.{names_at}
-use Rattle.lexopt_options.specs.Usage.{is_values, named}
+use Rattle.lexopt_options.specs.Declarations.{options_of}
+use Rattle.lexopt_options.specs.Usage.{ConvertsFor, is_values}
 use Rattle.lexopt_options.proofs.options.Options.parse_values.Goals as goal
 
 pub returns : goal.returns
-returns g c = record {
-  answer = c.parse.result;
-  text = c.parse.ensures.text;
-  damaged = c.parse.ensures.damaged;
-  named_so = c.name_error.ensures ∙ ap (λ o. named o c.parse.result) (c.names_of-option.ensures ∙ ap (names_at c.options-options.result.now) c.place_of_values.ensures ∙ ap (λ (os : List (Declared _ _ _ _)). names_at os (position (λ o. is_values g.S.PartialEq.eq c.args.key o.kind) os)) c.options-options.ensures.same);
-}
+returns g c =
+    let is : Declared _ _ _ _ → Bool = λ o. is_values g.S.PartialEq.eq c.args.key o.kind in
+    let place = position_from_yields_List is _ _ c.position-place.result c.position-place.ensures.ran (YieldsList-from_slice c.options.result.now cc) (λ x b q k. search (rules, tests)) in
+    subst (λ names. ConvertsFor names g.T.FromStr.from_str_gives g.T.Err.Into.converts c.args.word.now c.parse_for.result)
+    (ap (names_at (options_of c.args.self.now)) (place ∙ ap (position is) c.options.ensures.same)) c.parse_for.ensures

@@ -1,0 +1,9 @@
+use Rattle.std.proofs.Common.{◌≡◌, ◌++◌, false, map, take}
+use Rattle.std.specs.List.{flat_map}
+use Rattle.lexopt_options_spec.specs.Completion.{offered, spelled}
+use Rattle.lexopt_declaration.specs.Models.{names_list, spelling_view}
+use Rattle.lexopt_declaration.proofs.spellings.add_aliases.Given as goal
+
+abbrev pub invariant-loop-names : goal.invariant-loop-names
+invariant-loop-names l =
+    map spelling_view l.spellings.items ≡ map spelling_view l.initial.spellings.items ++ offered l.typed (spelled l.help false (flat_map names_list (take l.names-index l.aliases)))

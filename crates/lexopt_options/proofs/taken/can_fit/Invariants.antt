@@ -1,0 +1,9 @@
+use Rattle.std.proofs.Common.{◌≤◌, ◌<◌, ◌-◌, ℕ, map}
+use Rattle.lexopt_declaration.specs.Models.{positional_view}
+use Rattle.lexopt_options_spec.specs.Places.{least}
+use Rattle.lexopt_options.specs.Taken.{Fits}
+use Rattle.lexopt_options.proofs.taken.can_fit.Given as goal
+
+abbrev pub invariant-loop-spare : goal.invariant-loop-spare
+invariant-loop-spare g l = let ps = map positional_view l.positionals in (s : ℕ) → l.count - least ps ≤ s → s < l.spare
+    → ¬ Fits ps l.words l.next s
