@@ -263,7 +263,7 @@ _complete_§() {
                 index=0 line=$COMP_LINE
                 while ((index < COMP_CWORD)); do
                     line=${line#*"${COMP_WORDS[index]}"}
-                    ((${#COMP_LINE} - ${#line} > begins[${#words[@]} - start])) && break
+                    ((${#COMP_LINE} - ${#line} > begins[${#begins[@]} - 1 - start])) && break
                     ((index += 1))
                 done
                 _command_offset "$index"
