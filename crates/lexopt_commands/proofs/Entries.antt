@@ -1,9 +1,7 @@
 -- The help of a program with commands.
-use Rattle.std.proofs.Common.{◌≡◌, ◌<◌, ◌+◌, ◌++◌, ◌∷◌, [], ℕ, List, length, take, get_or, ap, sym, subst, ◌∙◌, append_assoc}
+use Rattle.lexopt_commands.proofs.Common.{◌≡◌, ◌<◌, ◌+◌, ◌++◌, ◌∷◌, [], ℕ, List, length, take, get_or, ap, sym, subst, ◌∙◌, append_assoc, IsEntry, set_apart, Command}
 use Rattle.std.proofs.lemmas.List.{take_more}
-use Rattle.lexopt_options_spec.specs.Help.{IsEntry, set_apart}
 use Rattle.lexopt_options_spec.proofs.Wrapping.{Listed, one_listed}
-use Rattle.lexopt_commands.specs.declared.command.Command.{Command}
 
 -- the text has the entries of these commands
 abbrev pub AreEntries : {C : Type 0} → ℕ → List (Command C) → List ℕ → Type 0

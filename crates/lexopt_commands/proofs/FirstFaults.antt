@@ -1,13 +1,10 @@
 -- The loop that looks for the first command that cannot be declared.
-use Rattle.std.proofs.Common.{◌≡◌, ◌==◌, Bool, if◌then◌else◌, ℕ, List, take, Option, Some, None, ap, sym, subst, ◌∙◌}
+use Rattle.lexopt_commands.proofs.Common.{◌≡◌, ◌==◌, Bool, if◌then◌else◌, ℕ, List, take, Option, Some, None, ap, sym, subst, ◌∙◌, list_any, Command, fault, first_fault, name_fault, names_of, or_else}
 use Rattle.std.proofs.Math.ListN.{drop}
 use Rattle.std.specs.Cmp.Lexicographic.{pointwise}
-use Rattle.std.specs.List.{list_any}
 use Rattle.lexopt_line_spec.proofs.Lists.{list_any-map}
-use Rattle.lexopt_commands.specs.declared.command.Command.{Command}
 use Rattle.lexopt_commands.specs.declared.command.Reason.{Reason}
 use Rattle.lexopt_commands.specs.declared.command.Reason.TheVariants.{SameName}
-use Rattle.lexopt_commands.specs.Names.{fault, first_fault, name_fault, names_of, or_else}
 
 -- what is found from this index on
 abbrev pub found_from : {C : Type 0} → List (Command C) → ℕ → Option (List ℕ × Reason)

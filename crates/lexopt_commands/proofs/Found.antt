@@ -1,18 +1,15 @@
 -- Each command is found by its name.
-use Rattle.std.proofs.Common.{append-nil, ◌≡◌, ◌==◌, ◌+◌, nat_lt, not, suc, zero, ℕ, Bool, true, false, if◌then◌else◌, List, [], ◌∷◌, ◌++◌, length, take, position, Option, Some, None, refl, ap, sym, subst, ◌∙◌, append_assoc, arith}
-use Rattle.std.specs.Prelude.{is_none}
-use Rattle.std.specs.List.{list_any, position_or_len}
+use Rattle.lexopt_commands.proofs.Common.{append-nil, ◌≡◌, ◌==◌, ◌+◌, nat_lt, not, suc, zero, ℕ, Bool, true, false, if◌then◌else◌, List, [], ◌∷◌, ◌++◌, length, take, position, Option, Some, None}
+use Rattle.lexopt_commands.proofs.Common.{refl, ap, sym, subst, ◌∙◌, append_assoc, arith, is_none, list_any, position_or_len, slice_get, Command, can_be_declared, fault, first_fault, name_fault}
+use Rattle.lexopt_commands.proofs.Common.{names_of, or_else, with_fault, command_at, command_of}
 use Rattle.std.specs.Option.{option_map}
-use Rattle.std.specs.Prelude.{slice_get}
 use Rattle.std.specs.Cmp.Lexicographic.{pointwise}
 use Rattle.std.proofs.lemmas.Bool.{lt-ltb, or_parts}
+use Rattle.std.proofs.lemmas.List.{take-map}
 use Rattle.std.proofs.lemmas.Option.{slice_get-map, slice_get_within}
 use Rattle.lexopt_line_spec.proofs.Lists.{list_any-map}
 use Rattle.lexopt_options_spec.proofs.Tables.{pointwise_refl}
-use Rattle.lexopt_commands.specs.declared.command.Command.{Command}
 use Rattle.lexopt_commands.specs.declared.command.Reason.{Reason}
-use Rattle.lexopt_commands.specs.Names.{can_be_declared, fault, first_fault, name_fault, names_of, or_else, with_fault}
-use Rattle.lexopt_commands.specs.Meanings.{command_at, command_of}
 
 -- ---- a list without a fault has none at any place
 
@@ -54,17 +51,12 @@ place_at p xs i x at is none =
     ap (λ n. if nat_lt n (length xs) then Some n else None) (first_at p xs i x at is none)
     ∙ ap (λ b. if b then Some i else None) (lt-ltb _ _ (slice_get_within xs i x at))
 
-take_names : {C : Type 0} (commands : List (Command C)) (i : ℕ) → take i (names_of commands) ≡ names_of (take i commands)
-take_names commands zero = refl
-take_names [] (suc i) = refl
-take_names (c ∷ cs) (suc i) = ap (λ l. c.name.now ∷ l) (take_names cs i)
-
 pub each_found : {C : Type 0} (commands : List (Command C)) → can_be_declared (names_of commands) ≡ true → (i : ℕ) (c : Command C) → slice_get commands i ≡ Some c → command_of commands c.name.now ≡ Some c
 each_found commands sound i c at =
     let n = c.name.now in
     let named = slice_get-map (λ (x : Command _). x.name.now) commands i ∙ ap (option_map (λ (x : Command _). x.name.now)) at in
     let none = no_fault_at [] (names_of commands) i n (is_none_none (first_fault [] (names_of commands)) sound) named in
     let alone = not_among (name_fault n) (list_any (λ own. pointwise ◌==◌ own n) (take i (names_of commands))) _ none in
-    let first = sym (list_any-map (λ (x : Command _). x.name.now) (λ own. pointwise ◌==◌ own n) (take i commands)) ∙ ap (list_any (λ own. pointwise ◌==◌ own n)) (sym (take_names commands i)) ∙ alone in
+    let first = sym (list_any-map (λ (x : Command _). x.name.now) (λ own. pointwise ◌==◌ own n) (take i commands)) ∙ ap (list_any (λ own. pointwise ◌==◌ own n)) (sym (take-map (λ (x : Command _). x.name.now) i commands)) ∙ alone in
     let place = place_at (λ (x : Command _). pointwise ◌==◌ x.name.now n) commands i c at (pointwise_refl n) first in
     ap (command_at commands) place ∙ at

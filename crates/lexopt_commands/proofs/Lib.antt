@@ -1,3 +1,4 @@
+pub mod Common
 pub mod FirstFaults
 pub mod Found
 pub mod Entries

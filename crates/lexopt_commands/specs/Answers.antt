@@ -4,7 +4,8 @@ use Rattle.std.specs.Prelude.{◌≡◌, ℕ, List, [], ◌∷◌, ◌++◌, Vec
 use Rattle.std.specs.Borrow.{Bor}
 use Rattle.std.specs.Global.{Global}
 use Rattle.std.specs.declared.convert.Infallible.{Infallible}
-use Rattle.lexopt_options_spec.specs.Declaration.{Asked, for_help, for_version}
+use Rattle.lexopt_options_spec.specs.Declaration.{Asked, brief, for_brief_help, for_help, for_version}
+use Rattle.lexopt_options_spec.specs.Declaration.{full}
 use Rattle.lexopt_options_spec.specs.Help.{line_feed}
 use Rattle.lexopt_options.specs.declared.request.Request.{Request}
 use Rattle.lexopt_options.specs.declared.request.Request.TheVariants as request
@@ -25,7 +26,10 @@ use Rattle.lexopt_commands.specs.Lines.{IsLineRead}
 
 -- the text is the help at this width, or the version and a line feed
 abbrev pub IsAskedText : {C F V M S : Type 0} → Commands C F V M S → Asked → ℕ → List ℕ → Type 0
-IsAskedText c for_help width text = IsHelp (declaration_of c.options) c.commands.now width text
+IsAskedText c for_help width text =
+    IsHelp full (declaration_of c.options) c.commands.now width text
+IsAskedText c for_brief_help width text =
+    IsHelp brief (declaration_of c.options) c.commands.now width text
 IsAskedText c (for_version version) width text = text ≡ version ++ line_feed ∷ []
 
 -- The words are the line of a command. Its call has the words after its name, and the general

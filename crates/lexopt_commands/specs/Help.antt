@@ -2,10 +2,10 @@
 -- The source is `docs/behaviour.md`.
 use Rattle.std.specs.Prelude.{◌≡◌, ℕ, false, List, [], ◌∷◌, ◌++◌, codes}
 use Rattle.std.specs.List.{AllZip, concat, flat_map}
-use Rattle.lexopt_options_spec.specs.Declaration.{Count, Declaration, Positional, any_number, files}
-use Rattle.lexopt_options_spec.specs.Declaration.{once}
+use Rattle.lexopt_options_spec.specs.Declaration.{Count, Declaration, Detail, Positional, any_number}
+use Rattle.lexopt_options_spec.specs.Declaration.{files, once}
 use Rattle.lexopt_options_spec.specs.Help.{IsEntry, IsOption, IsParagraph, IsUsage, options_part}
-use Rattle.lexopt_options_spec.specs.Help.{set_apart, visible}
+use Rattle.lexopt_options_spec.specs.Help.{entered, set_apart, shown_epilogue}
 use Rattle.lexopt_commands.specs.declared.command.Command.{Command}
 
 -- a positional that only the usage line shows
@@ -26,9 +26,9 @@ with_command d = record d {
 }
 
 -- the text is the help: the usage; what the program does; an entry for each command, and for
--- each option that is not hidden; and the paragraphs of the epilogue
-pub record IsHelp {C : Type 0} (d : Declaration) (list : List (Command C)) (width : ℕ)
-    (text : List ℕ) : Type 0 where
+-- each option that has one; and the paragraphs of the epilogue that are shown
+pub record IsHelp {C : Type 0} (detail : Detail) (d : Declaration) (list : List (Command C))
+    (width : ℕ) (text : List ℕ) : Type 0 where
   pub usage : List ℕ
   pub about : List ℕ
   pub commands : List (List ℕ)
@@ -37,7 +37,7 @@ pub record IsHelp {C : Type 0} (d : Declaration) (list : List (Command C)) (widt
   pub usage_first : IsUsage width (with_command d) usage
   pub about_next : IsParagraph width d.about about
   pub each_command : AllZip (λ c. IsEntry width c.name.now c.help.now) list commands
-  pub each_option : AllZip (IsOption width) (visible d.options) options
-  pub each_paragraph : AllZip (IsParagraph width) d.epilogue epilogue
+  pub each_option : AllZip (IsOption detail width) (entered d.options) options
+  pub each_paragraph : AllZip (IsParagraph width) (shown_epilogue detail d.epilogue) epilogue
   pub written : text ≡ usage ++ about ++ set_apart (concat commands)
       ++ options_part (concat options) ++ flat_map set_apart epilogue

@@ -13,7 +13,7 @@ use Rattle.lexopt_options.specs.declared.parsed.Parsed.{Parsed}
 use Rattle.lexopt_options.specs.declared.refused.Line.TheVariants as front
 use Rattle.lexopt_options.specs.declared.refused.Refused.{Refused}
 use Rattle.lexopt_options.specs.Declarations.{declaration_of, options_of}
-use Rattle.lexopt_options.specs.Keys.{AreParsedAs, asked_view}
+use Rattle.lexopt_options.specs.Keys.{AreReadAs, asked_view}
 use Rattle.lexopt_options_spec.specs.Rest.{surplus}
 use Rattle.lexopt_options.specs.RestLines.{IsRestRead}
 use Rattle.lexopt_commands.specs.declared.commands.Commands.{Commands}
@@ -73,21 +73,21 @@ abbrev pub IsLineAsking : {C F V M S : Type 0} → spec.Asked → CommandLine C 
 IsLineAsking asked (line.Asked own) = asked_view own ≡ asked
 IsLineAsking asked line = ⊥
 
--- the result by this list of general options and these words after them: what the options ask for;
--- or, if they ask for nothing, what the words mean
+-- the result by this list of general options, after their defaults, and these words after them: what
+-- the options ask for; or, if they ask for nothing, what the words mean
 pub record IsLineOf {C F V M S : Type 0} (c : Commands C F V M S) (l : List legal.Parsed)
     (rest : List (List ℕ)) (line : CommandLine C F V M S) : Type 0 where
   pub asks : (asked : spec.Asked) → first_asked (declaration_of c.options).options l ≡ Some asked
       → IsLineAsking asked line
   pub after : first_asked (declaration_of c.options).options l ≡ None
-      → (parsed : List (Parsed F V Infallible M S)) × AreParsedAs (options_of c.options) l parsed
+      → (parsed : List (Parsed F V Infallible M S)) × AreReadAs (options_of c.options) l parsed
       × IsLineAfter c parsed rest line
 
 -- the result is the command with this name and key, with these words and this list of general
--- options
+-- options, after their defaults
 abbrev pub IsCommandLine : {C F V M S : Type 0} → Commands C F V M S → List legal.Parsed → List ℕ → C
     → List (List ℕ) → CommandLine C F V M S → Type 0
 IsCommandLine c l name key words (line.Command parsed own k rest) =
-    AreParsedAs (options_of c.options) l parsed.items × (own.now ≡ name) × (k ≡ key)
+    AreReadAs (options_of c.options) l parsed.items × (own.now ≡ name) × (k ≡ key)
     × (rest.items ≡ words)
 IsCommandLine c l name key words line = ⊥

@@ -7,7 +7,7 @@ ghost use Rattle.lexopt_commands.specs.Answers.{IsAskedText};
 use crate::call::Call;
 use crate::commands::Commands;
 use crate::read::CommandLine;
-use lexopt_options::{Asked, Parsed, Refused, Request, columns};
+use lexopt_options::{Asked, Detail, Parsed, Refused, Request, columns};
 use lexopt_words::os_string::OsString;
 use std::alloc::{AllocError, Global};
 use std::convert::Infallible;
@@ -54,7 +54,8 @@ impl<C, F, V, M, S> Commands<'_, C, F, V, M, S> {
             IsAskedText self.now (asked_view asked.entry) width (string_bytes text)) }
     {
         match asked {
-            Asked::Help => self.help(alloc, width),
+            Asked::Help => self.help(alloc, Detail::Full, width),
+            Asked::BriefHelp => self.help(alloc, Detail::Brief, width),
             Asked::Version(version) => format!(in alloc; "{version}\n"),
         }
     }

@@ -64,7 +64,7 @@ impl<'a, C, F, V, M, S> Commands<'a, C, F, V, M, S> {
     ///
     /// ```rust
     /// match Commands::try_new(Options::new(&GENERAL), COMMANDS) {
-    ///     Ok(commands) => rt.print(commands.help(alloc, columns(rt))?)?,
+    ///     Ok(commands) => rt.print(commands.help(alloc, Detail::Full, columns(rt))?)?,
     ///     // If two commands have the name `add`, this prints:
     ///     // git: command 'add': a command before it has its name
     ///     Err(error) => eprintln!(rt; "git: {error}")?,
@@ -86,6 +86,7 @@ impl<'a, C, F, V, M, S> Commands<'a, C, F, V, M, S> {
     }
 
     /// Returns the general options, which have no positionals.
+    #[tactic(auto, using(crate::proofs::Wholes::no_positionals))]
     pub fn options(&self) -> Options<'a, F, V, Infallible, M, S>
         ensures same { result ≡ self.now.options }
         ensures none { (declaration_of result).positionals ≡ [] }
@@ -94,6 +95,7 @@ impl<'a, C, F, V, M, S> Commands<'a, C, F, V, M, S> {
     }
 
     /// Returns the commands, in the order of the declaration.
+    #[tactic(auto, using(crate::proofs::Found::each_found))]
     pub fn commands(&self) -> &'a [Command<'a, C>]
         ensures same { result.now ≡ self.now.commands.now }
 

@@ -3,6 +3,7 @@
 ghost use Rattle.std.specs.Prelude.{◌≡◌, ℕ, IfOk, List, string_bytes};
 ghost use Rattle.std.specs.List.{AllZip, concat};
 ghost use Rattle.lexopt_options_spec.specs.Help.{IsEntry, IsUsage};
+ghost use Rattle.lexopt_declaration.specs.Models.{detail_view};
 ghost use Rattle.lexopt_options.specs.Declarations.{declaration_of};
 ghost use Rattle.lexopt_commands.specs.Help.{IsHelp, with_command};
 
@@ -10,9 +11,9 @@ use crate::command::Command;
 use crate::commands::Commands;
 use crate::wrapper::{Rest, Wrapper};
 use lexopt_declaration::help::{
-    push_apart, push_described, push_epilogue, push_options, push_paragraph,
+    push_apart, push_described, push_epilogue, push_options, push_paragraph, shown_epilogue,
 };
-use lexopt_options::{Options, RestStart};
+use lexopt_options::{Detail, Options, RestStart};
 use std::alloc::{AllocError, Global};
 use std::convert::Infallible;
 
@@ -56,25 +57,28 @@ fn usage_of<F, V, M, S>(
 // The help, wrapped to `width` columns.
 fn help_of<C, F, V, M, S>(
     alloc: Global,
+    detail: Detail,
     options: &Options<'_, F, V, Infallible, M, S>,
     commands: &[Command<'_, C>],
     width: usize,
 ) -> Result<String, AllocError>
-    ensures { IfOk result (λ text.
-        IsHelp (declaration_of options.now) commands.now width (string_bytes text)) }
+    ensures { IfOk result (λ text. IsHelp (detail_view detail) (declaration_of options.now)
+        commands.now width (string_bytes text)) }
 {
     let mut text = usage_of(alloc, options, width)?;
     push_paragraph(&mut text, alloc, options.about(), width)?;
     let entries = command_entries(alloc, commands, width)?;
     push_apart(&mut text, entries.as_str())?;
-    push_options(&mut text, alloc, options.options(), width)?;
-    push_epilogue(&mut text, alloc, options.epilogue(), width)?;
+    push_options(&mut text, alloc, detail, options.options(), width)?;
+    let epilogue = shown_epilogue(detail, options.epilogue());
+    push_epilogue(&mut text, alloc, epilogue, width)?;
     Ok(text)
 }
 
 impl<C, F, V, M, S> Commands<'_, C, F, V, M, S> {
     ghost use Rattle.std.specs.Prelude.{IfOk, string_bytes};
     ghost use Rattle.lexopt_options_spec.specs.Help.{IsUsage};
+    ghost use Rattle.lexopt_declaration.specs.Models.{detail_view};
     ghost use Rattle.lexopt_options.specs.Declarations.{declaration_of};
     ghost use Rattle.lexopt_commands.specs.Help.{IsHelp, with_command};
 
@@ -112,7 +116,7 @@ impl<C, F, V, M, S> Commands<'_, C, F, V, M, S> {
     /// # Examples
     ///
     /// ```rust
-    /// rt.print(commands.help(alloc, columns(rt))?)?;
+    /// rt.print(commands.help(alloc, Detail::Full, columns(rt))?)?;
     /// ```
     ///
     /// For `example_commands` at 80 columns that prints
@@ -129,10 +133,10 @@ impl<C, F, V, M, S> Commands<'_, C, F, V, M, S> {
     ///   -C, --directory=DIR   where the files are
     ///   -h, --help            print this help and exit
     /// ```
-    pub fn help(&self, alloc: Global, width: usize) -> Result<String, AllocError>
-        ensures { IfOk result (λ text. IsHelp (declaration_of self.now.options)
-            self.now.commands.now width (string_bytes text)) }
+    pub fn help(&self, alloc: Global, detail: Detail, width: usize) -> Result<String, AllocError>
+        ensures { IfOk result (λ text. IsHelp (detail_view detail)
+            (declaration_of self.now.options) self.now.commands.now width (string_bytes text)) }
     {
-        help_of(alloc, &self.options(), self.commands(), width)
+        help_of(alloc, detail, &self.options(), self.commands(), width)
     }
 }

@@ -23,9 +23,10 @@ use std::convert::Infallible;
 /// The result of reading a line of a program with commands.
 #[derive(Debug, Drop)]
 pub enum CommandLine<'a, C, F, V = Infallible, M = Infallible, S = Infallible> {
-    /// The line has a command: what the general options before it mean, its name, its key, and the
-    /// words for it. These are the words after its name. If a name that asks for the help came
-    /// before it, `--help` is among them, before the first that begins with a dash, or after all.
+    /// The line has a command: what the general options before it mean, after the defaults of those
+    /// that it does not have; its name; its key; and the words for it. These are the words after its
+    /// name. If a name that asks for the help came before it, `--help` is among them, before the
+    /// first that begins with a dash, or after all.
     Command(Vec<Parsed<F, V, Infallible, M, S>>, &'a str, C, Vec<OsString>),
     /// The line asks for the help or the version before any mistake.
     Asked(Asked<'a>),
@@ -294,7 +295,7 @@ impl<'a, C: Copy, F: Copy, V: Copy, M: Copy, S: Copy> Commands<'a, C, F, V, M, S
     ///         // `general` is Value((), "dir"), `name` is "add", `task` is Task::Add, and `own` is
     ///         // `-f`, `x`.
     ///     }
-    ///     CommandLine::Asked(Asked::Help) => rt.print(commands.help(alloc, columns(rt))?)?,
+    ///     CommandLine::Asked(Asked::Help) => rt.print(commands.help(alloc, Detail::Full, columns(rt))?)?,
     ///     CommandLine::Asked(Asked::Version(version)) => rt.println(version)?,
     ///     CommandLine::Refused(refused) => rt.eprintln(refused)?,
     /// }

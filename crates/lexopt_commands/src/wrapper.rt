@@ -12,8 +12,8 @@ use lexopt_declaration::declaration::{Count, Declaration, Positional, Words};
 use lexopt_declaration::help;
 use lexopt_declaration::lookup::help_names_of;
 use lexopt_options::{
-    Asked, Line, Mistake, Options, Parsed, Refused, Request, RestCompletion, RestStart, columns,
-    complete_rest, read_rest,
+    Asked, Detail, Line, Mistake, Options, Parsed, Refused, Request, RestCompletion, RestStart,
+    columns, complete_rest, read_rest,
 };
 use lexopt_words::os_string::OsString;
 use std::alloc::{AllocError, Global};
@@ -80,8 +80,8 @@ pub struct Wrapper<'a, F, V = Infallible, P = Infallible, M = Infallible, S = In
 /// those of [`Wrapper`].
 #[derive(Debug, Drop)]
 pub enum WrapperAnswer<'a, F, V = Infallible, P = Infallible, M = Infallible, S = Infallible> {
-    /// Do the program's own work. This is what its own words mean, in order, and the rest, which is
-    /// empty only if it is not required.
+    /// Do the program's own work. This is what its own words mean, in order, after the defaults of
+    /// the options that they do not have, and the rest, which is empty only if it is not required.
     Parsed(Vec<Parsed<F, V, P, M, S>>, Vec<OsString>),
     /// Print this to standard output, and exit: the help, the version, or what a shell asked for.
     Text(String),
@@ -259,7 +259,7 @@ impl<'a, F, V, P, M, S> Wrapper<'a, F, V, P, M, S> {
     ghost use Rattle.std.specs.Prelude.{◌≡◌, IfOk, map, string_bytes};
     ghost use Rattle.lexopt_options_spec.specs.Help.{IsHelp, IsUsage};
     ghost use Rattle.lexopt_declaration.specs.Declarations.{declaration_view};
-    ghost use Rattle.lexopt_declaration.specs.Models.{positional_view};
+    ghost use Rattle.lexopt_declaration.specs.Models.{detail_view, positional_view};
     ghost use Rattle.lexopt_options.specs.Declarations.{declaration_of};
     ghost use Rattle.lexopt_options.specs.Keys.{asked_view};
     ghost use Rattle.lexopt_options.specs.Answers.{IsAskedText};
@@ -341,13 +341,14 @@ impl<'a, F, V, P, M, S> Wrapper<'a, F, V, P, M, S> {
     ///   -v, --verbose         tell more
     ///   -h, --help            print this help and exit
     /// ```
-    pub fn help(&self, alloc: Global, width: usize) -> Result<String, AllocError>
-        ensures { IfOk result (λ text. IsHelp (whole_of self.now) width (string_bytes text)) }
+    pub fn help(&self, alloc: Global, detail: Detail, width: usize) -> Result<String, AllocError>
+        ensures { IfOk result
+            (λ text. IsHelp (detail_view detail) (whole_of self.now) width (string_bytes text)) }
     {
         let mark = rest_mark(alloc, self.rest)?;
         let declared = self.options.positionals();
         let positionals = all_positionals(alloc, declared, mark.as_str(), self.rest)?;
-        help::help(alloc, &self.declaration(&positionals), width)
+        help::help(alloc, detail, &self.declaration(&positionals), width)
     }
 
     // The text for this request: the help, or the version and a line feed.
@@ -361,7 +362,8 @@ impl<'a, F, V, P, M, S> Wrapper<'a, F, V, P, M, S> {
             IsAskedText (whole_of self.now) (asked_view asked.entry) width (string_bytes text)) }
     {
         match asked {
-            Asked::Help => self.help(alloc, width),
+            Asked::Help => self.help(alloc, Detail::Full, width),
+            Asked::BriefHelp => self.help(alloc, Detail::Brief, width),
             Asked::Version(version) => format!(in alloc; "{version}\n"),
         }
     }

@@ -1,16 +1,13 @@
 -- How many positionals there are.
-use Rattle.std.proofs.Common.{◌≡◌, ℕ, suc, Bool, true, false, List, [], ◌∷◌, map, filter, length, Some, None, if◌then◌else◌, refl, sym, ap, ◌∙◌, ◌≢◌, ◌<◌, ◌≤◌, ◌+◌, ◌-◌, drop, get_or, add-one, drop-cons, arith}
+use Rattle.lexopt_declaration.proofs.Common.{◌≡◌, ℕ, suc, Bool, true, false, List, [], ◌∷◌, map, filter, length, Some, None, if◌then◌else◌, refl, sym, ap, ◌∙◌, ◌≢◌, ◌<◌, ◌≤◌, ◌+◌, ◌-◌, drop, get_or}
+use Rattle.lexopt_declaration.proofs.Common.{add-one, drop-cons, arith, list_any, length-map, has_to_occur, may_repeat, count_view, positional_view}
 use Rattle.std.proofs.Math.ListN.{drop_of_length-le}
-use Rattle.std.specs.List.{list_any}
-use Rattle.std.proofs.lemmas.List.{length-map}
 use Rattle.lexopt_line_spec.proofs.Lists.{list_any-map}
 use Rattle.lexopt_options_spec.specs.Declaration as spec
-use Rattle.lexopt_options_spec.specs.Declaration.{has_to_occur, may_repeat}
 use Rattle.lexopt_options_spec.specs.Legal.{most}
 use Rattle.lexopt_options_spec.specs.Places.{least, required}
 use Rattle.lexopt_options_spec.specs.Stops.{required_placeholder}
 use Rattle.lexopt_declaration.specs.declared.declaration.Positional.{Positional}
-use Rattle.lexopt_declaration.specs.Models.{count_view, positional_view}
 use Rattle.lexopt_declaration.proofs.Hinted.{filter_viewed}
 
 unlimited_is : {P : Type 0} (ps : List (Positional P)) → list_any (λ p. may_repeat (count_view p.count)) ps ≡ list_any (λ (p : spec.Positional). may_repeat p.count) (map positional_view ps)

@@ -1,3 +1,4 @@
+pub mod Common
 pub mod OptionNames
 pub mod Positions
 pub mod Counting

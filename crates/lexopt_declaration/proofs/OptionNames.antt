@@ -1,21 +1,15 @@
 -- An option by its own names and its further ones.
-use Rattle.std.proofs.Common.{◌≡◌, ◌<◌, ◌≤◌, ◌+◌, ℕ, take, Bool, true, false, not, ◌||◌, List, [], ◌∷◌, ◌++◌, map, length, get_or, refl, sym, ap, subst, ◌∙◌}
-use Rattle.std.specs.List.{flat_map, list_any}
-use Rattle.std.specs.Option.{option_to_list}
+use Rattle.lexopt_declaration.proofs.Common.{◌≡◌, ◌<◌, ◌≤◌, ◌+◌, ℕ, take, Bool, true, false, ◌||◌, List, [], ◌∷◌, ◌++◌, map, length, get_or, refl, sym, ap, subst, ◌∙◌, flat_map, list_any}
+use Rattle.lexopt_declaration.proofs.Common.{option_to_list, false≢true, flat_map_more, take_all, take_more, has_name, is_name, is_one_of, AreText, IsText, Declared, AreAllText, long_name, names_list}
+use Rattle.lexopt_declaration.proofs.Common.{option_view, short_name}
 use Rattle.std.proofs.Math.Bool.{or-false}
-use Rattle.std.proofs.lemmas.Bool.{false≢true}
-use Rattle.std.proofs.lemmas.List.{flat_map_more, take_all, take_more}
 use Rattle.std.proofs.lemmas.List.Folds.{list_any-append}
 use Rattle.lexopt_line_spec.specs.Table.{Name, short, long}
 use Rattle.lexopt_options_spec.specs.Declaration as spec
-use Rattle.lexopt_options_spec.specs.Declaration.{has_name, is_name, is_one_of}
 use Rattle.lexopt_options_spec.proofs.Tables.{name_is}
 use Rattle.lexopt_options_spec.proofs.Sound.{either}
-use Rattle.lexopt_options_spec.specs.Completion.{AreText, IsText}
-use Rattle.lexopt_declaration.specs.declared.declaration.Declared.{Declared}
 use Rattle.lexopt_declaration.specs.declared.declaration.Names.{Names}
 use Rattle.lexopt_declaration.specs.declared.declaration.Names.TheVariants.{Short, Long, Both}
-use Rattle.lexopt_declaration.specs.Models.{AreAllText, long_name, names_list, option_view, short_name}
 
 own_names : (n : Names) → map short (option_to_list (short_name n)) ++ map long (option_to_list (long_name n)) ≡ names_list n
 own_names (Short c) = refl
@@ -28,18 +22,26 @@ all_names_are o = ap (λ l. l ++ flat_map names_list o.aliases.now) (own_names o
 either_has : {F V M S : Type 0} (name : Name) (o : Declared F V M S) → has_name name (option_view o) ≡ (is_one_of (names_list o.names) name || is_one_of (flat_map names_list o.aliases.now) name)
 either_has name o = ap (λ l. is_one_of l name) (all_names_are o) ∙ list_any-append (is_name name) (names_list o.names) (flat_map names_list o.aliases.now)
 
--- one of these further names, as `share` finds it
-any_alias : (name : Name) (aliases : List Names) → list_any (λ a. is_one_of (names_list a) name || false) aliases ≡ is_one_of (flat_map names_list aliases) name
+any_alias : (name : Name) (aliases : List Names) → list_any (λ a. is_one_of (names_list a) name) aliases ≡ is_one_of (flat_map names_list aliases) name
 any_alias name [] = refl
-any_alias name (a ∷ more) =
+any_alias name (a ∷ more) = ap (λ b. is_one_of (names_list a) name || b) (any_alias name more) ∙ sym (list_any-append (is_name name) (names_list a) (flat_map names_list more))
+
+-- one of these further names, as `share` finds it
+shared_alias : (name : Name) (aliases : List Names) → list_any (λ a. is_one_of (names_list a) name || false) aliases ≡ list_any (λ a. is_one_of (names_list a) name) aliases
+shared_alias name [] = refl
+shared_alias name (a ∷ more) =
     ap (λ b. b || list_any (λ x. is_one_of (names_list x) name || false) more) (or-false (is_one_of (names_list a) name))
-    ∙ ap (λ b. is_one_of (names_list a) name || b) (any_alias name more) ∙ sym (list_any-append (is_name name) (names_list a) (flat_map names_list more))
+    ∙ ap (λ b. is_one_of (names_list a) name || b) (shared_alias name more)
 
 -- an option that does not have a name as its own has it if a further name is this one
+pub has_further : {F V M S : Type 0} (name : Name) (o : Declared F V M S) (own : Bool) → own ≡ is_one_of (names_list o.names) name → own ≡ false
+    → list_any (λ a. is_one_of (names_list a) name) o.aliases.now ≡ has_name name (option_view o)
+has_further name o own is none =
+    any_alias name o.aliases.now ∙ ap (λ b. b || is_one_of (flat_map names_list o.aliases.now) name) (sym none ∙ is) ∙ sym (either_has name o)
+
 pub has_other : {F V M S : Type 0} (name : Name) (o : Declared F V M S) (own : Bool) → own ≡ is_one_of (names_list o.names) name → own ≡ false
     → list_any (λ a. is_one_of (names_list a) name || false) o.aliases.now ≡ has_name name (option_view o)
-has_other name o own is none =
-    any_alias name o.aliases.now ∙ ap (λ b. b || is_one_of (flat_map names_list o.aliases.now) name) (sym none ∙ is) ∙ sym (either_has name o)
+has_other name o own is none = shared_alias name o.aliases.now ∙ has_further name o own is none
 
 -- ---- names that are text
 

@@ -1,10 +1,7 @@
 -- The first option that passes a test.
-use Rattle.std.proofs.Common.{◌≡◌, ◌+◌, Bool, not, nat_lt, List, [], ◌∷◌, map, length, position, Some, None, cond, refl, sym, ap, ◌∙◌}
-use Rattle.std.specs.List.{position_or_len}
-use Rattle.std.proofs.lemmas.List.{length-map}
+use Rattle.lexopt_declaration.proofs.Common.{◌≡◌, ◌+◌, Bool, not, nat_lt, List, [], ◌∷◌, map, length, position, Some, None, cond, refl, sym, ap, ◌∙◌, position_or_len}
+use Rattle.lexopt_declaration.proofs.Common.{length-map, Declared, option_view}
 use Rattle.lexopt_options_spec.specs.Declaration as spec
-use Rattle.lexopt_declaration.specs.declared.declaration.Declared.{Declared}
-use Rattle.lexopt_declaration.specs.Models.{option_view}
 
 same_place : {F V M S : Type 0} (p : spec.Declared → Bool) (os : List (Declared F V M S)) → position_or_len (λ o. p (option_view o)) os ≡ position_or_len p (map option_view os)
 same_place p [] = refl

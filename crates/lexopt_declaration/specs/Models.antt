@@ -1,18 +1,21 @@
 -- A declaration as contracts see it.
-use Rattle.std.specs.Prelude.{ℕ, List, [], ◌∷◌, Option, Some, None, map, string_bytes}
+use Rattle.std.specs.Prelude.{ℕ, List, [], ◌∷◌, Option, Some, None, map, option_map, string_bytes}
 use Rattle.std.specs.List.{flat_map}
 use Rattle.lexopt_line_spec.specs.Table.{Name, short, long}
 use Rattle.lexopt_line_spec.specs.Table.{Kind as SpecKind, flag, one, optional, several}
 use Rattle.lexopt_options_spec.specs.Completion.{IsText}
 use Rattle.lexopt_options_spec.specs.Declaration as spec
-use Rattle.lexopt_options_spec.specs.Declaration.{Asked, for_help, for_version}
+use Rattle.lexopt_options_spec.specs.Declaration.{Asked, for_brief_help, for_help, for_version}
 use Rattle.lexopt_declaration.specs.declared.declaration.Names.{Names}
 use Rattle.lexopt_declaration.specs.declared.declaration.Names.TheVariants.{Short, Long, Both}
 use Rattle.lexopt_declaration.specs.declared.declaration.Kind.{Kind}
 use Rattle.lexopt_declaration.specs.declared.declaration.Kind.TheVariants.{Flag, Value, Maybe, Values}
-use Rattle.lexopt_declaration.specs.declared.declaration.Kind.TheVariants.{Help, Version}
+use Rattle.lexopt_declaration.specs.declared.declaration.Kind.TheVariants.{BriefHelp, Help, Version}
 use Rattle.lexopt_declaration.specs.declared.declaration.Arity.{Arity}
 use Rattle.lexopt_declaration.specs.declared.declaration.Arity.TheVariants.{Zero, One, Optional, Several}
+use Rattle.lexopt_declaration.specs.declared.declaration.Beside.{Beside}
+use Rattle.lexopt_declaration.specs.declared.declaration.Beside.TheVariants.{Flag as BesideFlag}
+use Rattle.lexopt_declaration.specs.declared.declaration.Beside.TheVariants.{Negation, Nothing}
 use Rattle.lexopt_declaration.specs.declared.declaration.Declared.{Declared}
 use Rattle.lexopt_declaration.specs.declared.declaration.Count.{Count}
 use Rattle.lexopt_declaration.specs.declared.declaration.Count.TheVariants.{Once, AtMostOnce, AnyNumber}
@@ -20,6 +23,8 @@ use Rattle.lexopt_declaration.specs.declared.declaration.Count.TheVariants.{AtLe
 use Rattle.lexopt_declaration.specs.declared.declaration.Positional.{Positional}
 use Rattle.lexopt_declaration.specs.declared.spellings.Spelling.{Spelling}
 use Rattle.lexopt_declaration.specs.declared.declaration.Words.{Words}
+use Rattle.lexopt_declaration.specs.declared.help.Detail.{Detail}
+use Rattle.lexopt_declaration.specs.declared.help.Detail.TheVariants.{Brief, Full}
 use Rattle.lexopt_declaration.specs.declared.declaration.Words.TheVariants.{Files, Directories}
 use Rattle.lexopt_declaration.specs.declared.declaration.Words.TheVariants.{Listed, Text}
 
@@ -62,6 +67,7 @@ kind_of (Value key placeholder) = one
 kind_of (Maybe key placeholder) = optional
 kind_of (Values key placeholder) = several
 kind_of Help = flag
+kind_of BriefHelp = flag
 kind_of (Version text) = flag
 
 abbrev pub placeholder_of : {F V M S : Type 0} → Kind F V M S → List ℕ
@@ -72,14 +78,24 @@ placeholder_of kind = []
 
 abbrev pub asked_of : {F V M S : Type 0} → Kind F V M S → Option Asked
 asked_of Help = Some for_help
+asked_of BriefHelp = Some for_brief_help
 asked_of (Version text) = Some (for_version text.now)
 asked_of kind = None
+
+abbrev pub detail_view : Detail → spec.Detail
+detail_view Brief = spec.brief
+detail_view Full = spec.full
 
 abbrev pub words_view : Words → spec.Words
 words_view Files = spec.files
 words_view Directories = spec.directories
 words_view Text = spec.text
 words_view (Listed values) = spec.listed (map (λ value. value.now) values.now)
+
+abbrev pub beside_view : Beside → spec.Beside
+beside_view Nothing = spec.nothing
+beside_view (BesideFlag c) = spec.a_flag c
+beside_view Negation = spec.negation
 
 abbrev pub option_view : {F V M S : Type 0} → Declared F V M S → spec.Declared
 option_view o = record {
@@ -88,13 +104,16 @@ option_view o = record {
   kind = kind_of o.kind;
   placeholder = placeholder_of o.kind;
   help = o.help.now;
+  details = o.details.now;
   asks = asked_of o.kind;
   heading = o.heading.now;
   hidden = o.hidden;
   required = o.required;
+  default = option_map (λ value. value.now) o.default;
   words = words_view o.words;
   hides_list = o.hides_list;
   aliases = flat_map names_list o.aliases.now;
+  beside = beside_view o.beside;
 }
 
 abbrev pub spelling_view : Spelling → List ℕ × List ℕ

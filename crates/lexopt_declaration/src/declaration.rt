@@ -132,8 +132,10 @@ pub enum Kind<'a, F, V = Infallible, M = Infallible, S = Infallible> {
     Maybe(M, &'a str),
     /// At least one value, and the placeholder of each: `-x PATTERN...`.
     Values(S, &'a str),
-    /// No value: asks for the help.
+    /// No value: asks for the full help.
     Help,
+    /// No value: asks for the brief help.
+    BriefHelp,
     /// No value: asks for the version, which is this text.
     Version(&'a str),
 }
@@ -152,6 +154,7 @@ impl<F: Copy, V: Copy, M: Copy, S: Copy> Clone for Kind<'_, F, V, M, S> {
             Kind::Maybe(key, placeholder) => Kind::Maybe(*key, placeholder),
             Kind::Values(key, placeholder) => Kind::Values(*key, placeholder),
             Kind::Help => Kind::Help,
+            Kind::BriefHelp => Kind::BriefHelp,
             Kind::Version(text) => Kind::Version(text),
         })
     }
@@ -170,7 +173,7 @@ impl<'a, F, V, M, S> Kind<'a, F, V, M, S> {
         ensures placeholder { arity_placeholder result ≡ placeholder_of self.now }
     {
         match self {
-            Kind::Flag(_) | Kind::Help | Kind::Version(_) => Arity::Zero,
+            Kind::Flag(_) | Kind::Help | Kind::BriefHelp | Kind::Version(_) => Arity::Zero,
             Kind::Value(_, placeholder) => Arity::One(placeholder),
             Kind::Maybe(_, placeholder) => Arity::Optional(placeholder),
             Kind::Values(_, placeholder) => Arity::Several(placeholder),
@@ -182,7 +185,7 @@ impl<'a, F, V, M, S> Kind<'a, F, V, M, S> {
         ensures { result.now ≡ placeholder_of self.now }
     {
         match self {
-            Kind::Flag(_) | Kind::Help | Kind::Version(_) => "",
+            Kind::Flag(_) | Kind::Help | Kind::BriefHelp | Kind::Version(_) => "",
             Kind::Value(_, placeholder)
             | Kind::Maybe(_, placeholder)
             | Kind::Values(_, placeholder) => placeholder,
@@ -203,6 +206,18 @@ pub enum Words<'a> {
     Listed(&'a [&'a str]),
 }
 
+/// What the label of an option in the help shows beside its own names.
+#[derive(Debug, Clone, Copy, PartialEq, Eq)]
+pub enum Beside {
+    /// Nothing.
+    Nothing,
+    /// A flag before it, by this character, as in `-F, --classify[=WHEN]`.
+    Flag(char),
+    /// Its negation, as in `--[no-]color`: a flag before it, whose name is `no-` and then its own
+    /// long name.
+    Negation,
+}
+
 /// A declared option.
 #[derive(Debug)]
 pub struct Declared<'a, F, V = Infallible, M = Infallible, S = Infallible> {
@@ -214,14 +229,21 @@ pub struct Declared<'a, F, V = Infallible, M = Infallible, S = Infallible> {
     /// Its help text. The help wraps it at spaces, of which several count as one. Shells show it as
     /// it is, with a space for each control character of ASCII.
     pub help: &'a str,
+    /// A longer help text, which the full help shows in place of `help`. If it is empty, the full
+    /// help shows `help` too.
+    pub details: &'a str,
     /// The heading in the help for this option and those after it, up to the next that has one. It
-    /// is left out with an option that is hidden. It is empty if the option has none.
+    /// is left out with an option that has no entry. It is empty if the option has none.
     pub heading: &'a str,
     /// Whether the help and its usage line leave it out, shells offer its names only where they are
     /// typed whole, and no hint has its long name. Lines may have it all the same.
     pub hidden: bool,
     /// Whether every legal line has it.
     pub required: bool,
+    /// The value that it has where a line does not have it, if there is one. Only an option of one
+    /// value that is not required may have a default, which has to be a value that it accepts. The
+    /// help shows it.
+    pub default: Option<&'a str>,
     /// What its values may be. The help shows a list, even that of a flag, which has no values.
     pub words: Words<'a>,
     /// Whether the help leaves out the list.
@@ -229,6 +251,9 @@ pub struct Declared<'a, F, V = Infallible, M = Infallible, S = Infallible> {
     /// Further names, by which lines may have it too. The help, messages and hints show its own names
     /// only, and shells offer these only where they are typed whole.
     pub aliases: &'a [Names<'a>],
+    /// What its label in the help shows beside its own names. An option that the label of another
+    /// shows has no entry of its own in the help, unless the other is hidden.
+    pub beside: Beside,
 }
 
 impl<F: Copy, V: Copy, M: Copy, S: Copy> Clone for Declared<'_, F, V, M, S> {
@@ -243,12 +268,15 @@ impl<F: Copy, V: Copy, M: Copy, S: Copy> Clone for Declared<'_, F, V, M, S> {
             names: self.names,
             kind: self.kind.clone()?,
             help: self.help,
+            details: self.details,
             heading: self.heading,
             hidden: self.hidden,
             required: self.required,
+            default: self.default,
             words: self.words,
             hides_list: self.hides_list,
             aliases: self.aliases,
+            beside: self.beside,
         })
     }
 }

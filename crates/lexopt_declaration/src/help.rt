@@ -1,20 +1,34 @@
 //! The help of declared options, in the form that the GNU Coding Standards give `--help`, and laid
 //! out like that of `ls`. The file of this name in `lexopt_commands` adds the commands.
 ghost use Rattle.std.specs.Prelude.{◌≡◌, ◌≤◌, ◌+◌, ◌-◌, ◌∷◌, ◌++◌, ◌&&◌, ◌==◌, [], List, ℕ, IfOk, OnOk};
-ghost use Rattle.std.specs.Prelude.{if◌then◌else◌, codes, length, map, nat_lt, not, string_bytes};
+ghost use Rattle.std.specs.Prelude.{if◌then◌else◌, codes, length, map, nat_lt, not, option_map};
+ghost use Rattle.std.specs.Prelude.{string_bytes};
 ghost use Rattle.std.specs.List.{AllZip, concat, flat_map, list_any, starts_with};
 ghost use Rattle.lexopt_options_spec.specs.Help as spec;
 ghost use Rattle.lexopt_options_spec.specs.Help.{IsEntry, IsHelp, IsOption, IsParagraph, IsUsage};
 ghost use Rattle.lexopt_options_spec.specs.Help.{IsUsageLine, Wraps};
-ghost use Rattle.lexopt_declaration.specs.Models.{arity_kind, arity_placeholder, long_name, option_view};
-ghost use Rattle.lexopt_declaration.specs.Models.{positional_view, short_name, words_view};
+ghost use Rattle.lexopt_declaration.specs.Models.{arity_kind, arity_placeholder, beside_view, detail_view};
+ghost use Rattle.lexopt_declaration.specs.Models.{long_name};
+ghost use Rattle.lexopt_declaration.specs.Models.{option_view, positional_view, short_name};
+ghost use Rattle.lexopt_declaration.specs.Models.{words_view};
 ghost use Rattle.lexopt_declaration.specs.Declarations.{declaration_view};
 
-use crate::declaration::{Arity, Count, Declaration, Declared, Names, Positional, Words};
+use crate::declaration::{Arity, Beside, Count, Declaration, Declared, Names, Positional, Words};
 use crate::listed::Listed;
+use crate::lookup::{has_negation, has_short};
+use crate::message::Escaped;
 use bstr::ByteSlice;
 use std::alloc::{AllocError, Global};
 use std::fmt::Write;
+
+/// How much the help tells.
+#[derive(Debug, Clone, Copy, PartialEq, Eq)]
+pub enum Detail {
+    /// Without the longer help texts of options ([`Declared::details`]), and without the epilogue.
+    Brief,
+    /// All of it.
+    Full,
+}
 
 /// The width of the help, in columns, for a terminal whose width is not known.
 pub const WIDTH: usize = 80;
@@ -77,11 +91,45 @@ fn push_after_long(out: &mut String, arity: Arity<'_>) -> Result<(), AllocError>
     }
 }
 
-// Adds the label of an option.
-fn push_label(out: &mut String, names: Names<'_>, arity: Arity<'_>) -> Result<(), AllocError>
+// Adds a long name with its dashes, its negation if that is shown beside it, and what comes after it.
+fn push_long(
+    out: &mut String,
+    beside: Beside,
+    name: &str,
+    arity: Arity<'_>,
+) -> Result<(), AllocError>
     ensures { IfOk result (λ _. string_bytes out.new ≡ string_bytes out.old
-        ++ spec.label_of (short_name names.entry) (long_name names.entry) (arity_kind arity.entry)
-        (arity_placeholder arity.entry)) }
+        ++ (spec.long_shown (beside_view beside) name.now
+        ++ spec.after_long (arity_kind arity.entry) (arity_placeholder arity.entry))) }
+{
+    match beside {
+        Beside::Negation => write!(out, "--[no-]{name}")?,
+        Beside::Flag(_) | Beside::Nothing => write!(out, "--{name}")?,
+    }
+    push_after_long(out, arity)
+}
+
+// Adds what comes before a long name, if the option has no character.
+fn push_before_alone(out: &mut String, beside: Beside) -> Result<(), AllocError>
+    ensures { IfOk result (λ _. string_bytes out.new
+        ≡ string_bytes out.old ++ spec.before_alone (beside_view beside)) }
+{
+    match beside {
+        Beside::Flag(character) => write!(out, "-{character}, "),
+        Beside::Negation | Beside::Nothing => out.push_str("    "),
+    }
+}
+
+// Adds the label of an option.
+fn push_label(
+    out: &mut String,
+    beside: Beside,
+    names: Names<'_>,
+    arity: Arity<'_>,
+) -> Result<(), AllocError>
+    ensures { IfOk result (λ _. string_bytes out.new ≡ string_bytes out.old
+        ++ spec.label_of (beside_view beside) (short_name names.entry) (long_name names.entry)
+        (arity_kind arity.entry) (arity_placeholder arity.entry)) }
 {
     match names {
         Names::Short(character) => {
@@ -89,14 +137,14 @@ fn push_label(out: &mut String, names: Names<'_>, arity: Arity<'_>) -> Result<()
             push_after_short(out, arity)
         }
         Names::Long(name) => {
-            write!(out, "    --{name}")?;
-            push_after_long(out, arity)
+            push_before_alone(out, beside)?;
+            push_long(out, beside, name, arity)
         }
         Names::Both(character, name) => {
             write!(out, "-{character}")?;
             push_before_long(out, arity)?;
-            write!(out, ", --{name}")?;
-            push_after_long(out, arity)
+            out.push_str(", ")?;
+            push_long(out, beside, name, arity)
         }
     }
 }
@@ -287,39 +335,135 @@ fn push_heading(out: &mut String, heading: &str) -> Result<(), AllocError>
     write!(out, "\n{heading}:\n")
 }
 
+// The help text of an option: the longer one, unless there is none or the help is brief.
+fn chosen<'a>(detail: Detail, help: &'a str, details: &'a str) -> &'a str
+    ensures { result.now ≡ spec.chosen (detail_view detail) help.now details.now }
+{
+    match detail {
+        Detail::Full if !details.is_empty() => details,
+        Detail::Full | Detail::Brief => help,
+    }
+}
+
+// Adds the default, if there is one.
+fn push_default(text: &mut String, default: Option<&str>) -> Result<(), AllocError>
+    ensures { IfOk result (λ _. string_bytes text.new
+        ≡ spec.with_default (string_bytes text.old) (option_map (λ value. value.now) default.entry)) }
+{
+    match default {
+        Some(value) => {
+            let value = Escaped(value);
+            write!(text, " [default: {value}]")
+        }
+        None => Ok(()),
+    }
+}
+
+// The text of the entry of an option.
+fn option_text<F, V, M, S>(
+    alloc: Global,
+    detail: Detail,
+    option: &Declared<'_, F, V, M, S>,
+) -> Result<String, AllocError>
+    ensures { IfOk result (λ text. string_bytes text
+        ≡ spec.option_text (detail_view detail) (option_view option.now)) }
+{
+    let help = chosen(detail, option.help, option.details);
+    let mut text = told(alloc, option.hides_list, help, option.words)?;
+    push_default(&mut text, option.default)?;
+    Ok(text)
+}
+
 // Adds the heading of an option, if it has one, and its entry.
 fn push_option<F, V, M, S>(
     out: &mut String,
     alloc: Global,
+    detail: Detail,
     option: &Declared<'_, F, V, M, S>,
     width: usize,
 ) -> Result<(), AllocError>
-    ensures { IfOk result (λ _. (text : List ℕ) × IsOption width (option_view option.now) text
+    ensures { IfOk result (λ _. (text : List ℕ)
+        × IsOption (detail_view detail) width (option_view option.now) text
         × (string_bytes out.new ≡ string_bytes out.old ++ text)) }
 {
     push_heading(out, option.heading)?;
     let mut label = String::new(alloc);
-    push_label(&mut label, option.names, option.kind.arity())?;
-    let told = told(alloc, option.hides_list, option.help, option.words)?;
-    push_described(out, alloc, label.as_str(), told.as_str(), width)
+    push_label(&mut label, option.beside, option.names, option.kind.arity())?;
+    let text = option_text(alloc, detail, option)?;
+    push_described(out, alloc, label.as_str(), text.as_str(), width)
 }
 
-// The entries of the options that are not hidden, each after its heading if it has one.
+// Whether the label of the first option shows the second.
+fn shows<F, V, M, S>(first: &Declared<'_, F, V, M, S>, second: &Declared<'_, F, V, M, S>) -> bool
+    ensures { result ≡ spec.shows (option_view first.now) (option_view second.now) }
+{
+    match first.beside {
+        Beside::Flag(character) => match first.names {
+            Names::Long(_) => has_short(second, character),
+            Names::Short(_) | Names::Both(..) => false,
+        },
+        Beside::Negation => match first.names {
+            Names::Long(name) | Names::Both(_, name) => has_negation(second, name),
+            Names::Short(_) => false,
+        },
+        Beside::Nothing => false,
+    }
+}
+
+// Whether the label of the first option, if it is not hidden, shows the second.
+fn is_showing<F, V, M, S>(
+    first: &Declared<'_, F, V, M, S>,
+    second: &Declared<'_, F, V, M, S>,
+) -> bool
+    ensures { result ≡ (not first.now.hidden
+        && spec.shows (option_view first.now) (option_view second.now)) }
+{
+    !first.hidden && shows(first, second)
+}
+
+// Whether the label of one of these options, which is not hidden, shows this one.
+fn is_shown_by<F, V, M, S>(
+    options: &[Declared<'_, F, V, M, S>],
+    option: &Declared<'_, F, V, M, S>,
+) -> bool
+    ensures { result ≡ list_any (λ p. not p.hidden
+        && spec.shows (option_view p) (option_view option.now)) options.now }
+{
+    options.iter().any(|other| is_showing(other, option))
+}
+
+// Whether this one of the options has an entry.
+fn has_entry<F, V, M, S>(
+    options: &[Declared<'_, F, V, M, S>],
+    option: &Declared<'_, F, V, M, S>,
+) -> bool
+    ensures { result ≡ (not option.now.hidden
+        && not (spec.is_shown_by (map option_view options.now) (option_view option.now))) }
+{
+    if option.hidden {
+        return false;
+    }
+    !is_shown_by(options, option)
+}
+
+// The entries of the options that have one, each after its heading if it has one.
 fn option_entries<F, V, M, S>(
     alloc: Global,
+    detail: Detail,
     options: &[Declared<'_, F, V, M, S>],
     width: usize,
 ) -> Result<String, AllocError>
     ensures { IfOk result (λ text. (entries : List (List ℕ))
-        × AllZip (IsOption width) (spec.visible (map option_view options.now)) entries
+        × AllZip (IsOption (detail_view detail) width)
+        (spec.entered (map option_view options.now)) entries
         × (string_bytes text ≡ concat entries)) }
 {
     let mut text = String::new(alloc);
     for option in options {
-        if option.hidden {
+        if !has_entry(options, option) {
             continue;
         }
-        push_option(&mut text, alloc, option, width)?;
+        push_option(&mut text, alloc, detail, option, width)?;
     }
     Ok(text)
 }
@@ -335,8 +479,8 @@ fn push_options_part(out: &mut String, entries: &str) -> Result<(), AllocError>
     push_apart(out, entries)
 }
 
-/// Adds the entries of the options that are not hidden, wrapped to `width` columns, with their
-/// headings. An empty line comes before them.
+/// Adds the entries of the options that have one, wrapped to `width` columns, with their headings.
+/// An empty line comes before them.
 ///
 /// # Errors
 ///
@@ -344,14 +488,16 @@ fn push_options_part(out: &mut String, entries: &str) -> Result<(), AllocError>
 pub fn push_options<F, V, M, S>(
     out: &mut String,
     alloc: Global,
+    detail: Detail,
     options: &[Declared<'_, F, V, M, S>],
     width: usize,
 ) -> Result<(), AllocError>
     ensures { IfOk result (λ _. (entries : List (List ℕ))
-        × AllZip (IsOption width) (spec.visible (map option_view options.now)) entries
+        × AllZip (IsOption (detail_view detail) width)
+        (spec.entered (map option_view options.now)) entries
         × (string_bytes out.new ≡ string_bytes out.old ++ spec.options_part (concat entries))) }
 {
-    let entries = option_entries(alloc, options, width)?;
+    let entries = option_entries(alloc, detail, options, width)?;
     push_options_part(out, entries.as_str())
 }
 
@@ -425,6 +571,17 @@ pub fn push_apart(out: &mut String, part: &str) -> Result<(), AllocError>
     }
     out.push('\n')?;
     out.push_str(part)
+}
+
+/// Returns the paragraphs of the epilogue that the help shows.
+pub fn shown_epilogue<'a>(detail: Detail, epilogue: &'a [&'a str]) -> &'a [&'a str]
+    ensures { map (λ content. content.now) result.now
+        ≡ spec.shown_epilogue (detail_view detail) (map (λ content. content.now) epilogue.now) }
+{
+    match detail {
+        Detail::Brief => &[],
+        Detail::Full => epilogue,
+    }
 }
 
 /// Adds the paragraphs of the epilogue, each after an empty line, wrapped to `width` columns.
@@ -705,17 +862,19 @@ pub fn usage<F, V, P, M, S>(
 /// Returns `AllocError` if an allocation fails.
 pub fn help<F, V, P, M, S>(
     alloc: Global,
+    detail: Detail,
     declaration: &Declaration<'_, F, V, P, M, S>,
     width: usize,
 ) -> Result<String, AllocError>
-    ensures { IfOk result (λ text.
-        IsHelp (declaration_view declaration.now) width (string_bytes text)) }
+    ensures { IfOk result (λ text. IsHelp (detail_view detail) (declaration_view declaration.now)
+        width (string_bytes text)) }
 {
     let mut text = usage(alloc, declaration, width)?;
     push_paragraph(&mut text, alloc, declaration.about, width)?;
     let positionals = positional_entries(alloc, declaration.positionals, width)?;
     push_apart(&mut text, positionals.as_str())?;
-    push_options(&mut text, alloc, declaration.options, width)?;
-    push_epilogue(&mut text, alloc, declaration.epilogue, width)?;
+    push_options(&mut text, alloc, detail, declaration.options, width)?;
+    let epilogue = shown_epilogue(detail, declaration.epilogue);
+    push_epilogue(&mut text, alloc, epilogue, width)?;
     Ok(text)
 }

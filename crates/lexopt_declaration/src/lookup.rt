@@ -1,8 +1,10 @@
 //! Finds an option by its name, and the names of the option at an index.
-ghost use Rattle.std.specs.Prelude.{◌≡◌, map, position};
+ghost use Rattle.std.specs.Prelude.{◌≡◌, ◌==◌, map, position};
+ghost use Rattle.std.specs.Cmp.Lexicographic.{pointwise};
+ghost use Rattle.std.specs.List.{list_any};
 ghost use Rattle.lexopt_line_spec.specs.Table as table;
-ghost use Rattle.lexopt_options_spec.specs.Declaration.{has_name, index_of};
-ghost use Rattle.lexopt_declaration.specs.Models.{option_view};
+ghost use Rattle.lexopt_options_spec.specs.Declaration.{has_name, index_of, is_one_of, negated};
+ghost use Rattle.lexopt_declaration.specs.Models.{names_list, option_view};
 ghost use Rattle.lexopt_declaration.specs.Lookups.{has_alias, help_names, is_help, names_at};
 
 use crate::declaration::{Declared, Kind, Names};
@@ -14,8 +16,8 @@ pub fn has_alias<F, V, M, S>(option: &Declared<'_, F, V, M, S>, names: Names<'_>
     option.aliases.iter().any(|alias| names.shares(*alias))
 }
 
-// Whether the option has this character, as its own or as a further name.
-fn has_short<F, V, M, S>(option: &Declared<'_, F, V, M, S>, character: char) -> bool
+/// Returns whether the option has this character, as its own or as a further name.
+pub fn has_short<F, V, M, S>(option: &Declared<'_, F, V, M, S>, character: char) -> bool
     ensures { result ≡ has_name (table.short character) (option_view option.now) }
 {
     option.names.is_short(character) || has_alias(option, Names::Short(character))
@@ -26,6 +28,45 @@ fn has_long<F, V, M, S>(option: &Declared<'_, F, V, M, S>, name: &str) -> bool
     ensures { result ≡ has_name (table.long name.now) (option_view option.now) }
 {
     option.names.is_long(name) || has_alias(option, Names::Long(name))
+}
+
+// Whether a long name is the negation of the other: `no-`, and then that.
+fn is_negation(own: &str, name: &str) -> bool
+    ensures { result ≡ pointwise ◌==◌ own.now (negated name.now) }
+{
+    match own.as_bytes().strip_prefix(b"no-") {
+        Some(rest) => rest == name.as_bytes(),
+        None => false,
+    }
+}
+
+// Whether one of these names is the negation of this long name.
+fn have_negation(names: Names<'_>, name: &str) -> bool
+    ensures { result ≡ is_one_of (names_list names.entry) (table.long (negated name.now)) }
+{
+    match names {
+        Names::Long(own) | Names::Both(_, own) => is_negation(own, name),
+        Names::Short(_) => false,
+    }
+}
+
+// Whether a further name of the option is the negation of this long name.
+fn has_negation_alias<F, V, M, S>(option: &Declared<'_, F, V, M, S>, name: &str) -> bool
+    ensures { result ≡ list_any (λ a. is_one_of (names_list a) (table.long (negated name.now)))
+        option.now.aliases.now }
+{
+    option
+        .aliases
+        .iter()
+        .any(|alias| have_negation(*alias, name))
+}
+
+/// Returns whether the option has the negation of this long name, such as `no-color` for `color`, as
+/// its own name or as a further one.
+pub fn has_negation<F, V, M, S>(option: &Declared<'_, F, V, M, S>, name: &str) -> bool
+    ensures { result ≡ has_name (table.long (negated name.now)) (option_view option.now) }
+{
+    have_negation(option.names, name) || has_negation_alias(option, name)
 }
 
 // The index of the first option with this character.

@@ -158,22 +158,6 @@ fn add_word(found: &mut Vec<String>, word: String, typed: &[u8]) -> Result<(), A
     Ok(())
 }
 
-// Adds the values that begin with what was typed.
-fn add_listed(
-    alloc: Global,
-    found: &mut Vec<String>,
-    values: &[&str],
-    typed: &[u8],
-) -> Result<(), AllocError>
-    ensures { OnOk result (map string_bytes found.new.items ≡ map string_bytes found.old.items
-        ++ filter (λ s. starts_with nat_eq s typed.now) (map (λ v. v.now) values.now)) }
-{
-    for value in values {
-        add_word(found, String::from_str(alloc, value)?, typed)?;
-    }
-    Ok(())
-}
-
 /// Adds the values in a list, if there is one, that begin with what was typed.
 ///
 /// # Errors
@@ -188,10 +172,7 @@ pub fn add_values(
     ensures { OnOk result (map string_bytes found.new.items ≡ map string_bytes found.old.items
         ++ filter (λ s. starts_with nat_eq s typed.now) (spec.list_of (words_view words.entry))) }
 {
-    match words {
-        Words::Listed(values) => add_listed(alloc, found, values, typed),
-        Words::Files | Words::Directories | Words::Text => Ok(()),
-    }
+    add_joined(alloc, found, "", words, typed)
 }
 
 // The word with this value after `before`.

@@ -32,3 +32,4 @@ pub mod WorkedRequired
 pub mod WorkedRoles
 pub mod WorkedLines
 pub mod WorkedRest
+pub mod Defaults

@@ -13,13 +13,16 @@ verbose = record {
   kind = flag;
   placeholder = [];
   help = codes "tell more";
+  details = [];
   asks = None;
   heading = [];
   hidden = false;
   required = false;
+  default = None;
   words = spec.files;
   hides_list = false;
   aliases = [];
+  beside = spec.nothing;
 }
 
 abbrev pub output : Declared
@@ -29,13 +32,16 @@ output = record {
   kind = one;
   placeholder = codes "FILE";
   help = codes "the archive";
+  details = [];
   asks = None;
   heading = [];
   hidden = false;
   required = false;
+  default = None;
   words = spec.files;
   hides_list = false;
   aliases = [];
+  beside = spec.nothing;
 }
 
 abbrev pub backup : Declared
@@ -45,13 +51,16 @@ backup = record {
   kind = optional;
   placeholder = codes "SUFFIX";
   help = codes "keep an archive that is there, with this suffix";
+  details = [];
   asks = None;
   heading = [];
   hidden = false;
   required = false;
+  default = None;
   words = spec.files;
   hides_list = false;
   aliases = [];
+  beside = spec.nothing;
 }
 
 abbrev pub exclude : Declared
@@ -61,13 +70,16 @@ exclude = record {
   kind = several;
   placeholder = codes "PATTERN";
   help = codes "leave these out: all words up to the next option";
+  details = [];
   asks = None;
   heading = [];
   hidden = false;
   required = false;
+  default = None;
   words = spec.files;
   hides_list = false;
   aliases = [];
+  beside = spec.nothing;
 }
 
 abbrev pub sample_options : List Declared
@@ -148,13 +160,16 @@ asks_for_help = record {
   kind = flag;
   placeholder = [];
   help = codes "print this help and exit";
+  details = [];
   asks = Some for_help;
   heading = [];
   hidden = false;
   required = false;
+  default = None;
   words = spec.files;
   hides_list = false;
   aliases = [];
+  beside = spec.nothing;
 }
 
 abbrev pub asks_for_version : Declared
@@ -162,6 +177,7 @@ asks_for_version = record asks_for_help {
   short_name = None;
   long_name = Some (codes "version");
   help = codes "print the version and exit";
+  details = [];
   asks = Some (for_version (codes "1.0"));
 }
 
@@ -179,13 +195,16 @@ user = record {
   kind = one;
   placeholder = codes "NAME";
   help = codes "the owner of the archive";
+  details = [];
   asks = None;
   heading = [];
   hidden = false;
   required = true;
+  default = None;
   words = spec.files;
   hides_list = false;
   aliases = [];
+  beside = spec.nothing;
 }
 
 -- the sample with the required option at index 4
@@ -215,13 +234,22 @@ listed_mode = record {
   kind = one;
   placeholder = codes "MODE";
   help = codes "how to pack";
+  details = [];
   asks = None;
   heading = [];
   hidden = false;
   required = false;
+  default = None;
   words = spec.listed (codes "fast" ∷ codes "slow" ∷ []);
   hides_list = false;
   aliases = [];
+  beside = spec.nothing;
+}
+
+abbrev pub explained_mode : Declared
+explained_mode = record listed_mode {
+  details = codes "How to pack.";
+  default = Some (codes "fast");
 }
 
 abbrev pub listed_backup : Declared
@@ -244,3 +272,8 @@ abbrev pub demanding_listed : List Positional → Bool → Declaration
 demanding_listed positionals short_equals = record (sample positionals short_equals) {
   options = verbose ∷ record listed_mode { required = true } ∷ asks_for_help ∷ [];
 }
+
+-- `-o`, a flag and `--mode`, the first and the last with a default
+abbrev pub options_with_defaults : List Declared
+options_with_defaults = record output { default = Some (codes "f") } ∷ verbose
+    ∷ record listed_mode { default = Some (codes "slow") } ∷ []

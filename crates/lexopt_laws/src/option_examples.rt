@@ -26,16 +26,17 @@ ghost use Rattle.lexopt_options_spec.specs.Declaration.{dash_name, directories, 
 ghost use Rattle.lexopt_options_spec.specs.Declaration.{blank_or_control_in_name};
 ghost use Rattle.lexopt_options_spec.specs.Declaration.{empty_name, equals_in_name, index_of};
 ghost use Rattle.lexopt_options_spec.specs.Declaration.{Reason, is_sound, replacement_in_name};
-ghost use Rattle.lexopt_options_spec.specs.Declaration.{for_help, for_version};
+ghost use Rattle.lexopt_options_spec.specs.Declaration.{brief, for_help, for_version, full};
 ghost use Rattle.lexopt_options_spec.specs.Declaration.{any_number, at_least_once, at_most_once};
 ghost use Rattle.lexopt_options_spec.specs.Declaration.{has_to_occur, may_repeat, once};
-ghost use Rattle.lexopt_options_spec.specs.Declaration.{same_name, table};
+ghost use Rattle.lexopt_options_spec.specs.Declaration.{a_flag, negation, nothing, same_name, table};
 ghost use Rattle.lexopt_options_spec.specs.Legal.{Parsed, Means, MeansFront, accepts_at};
 ghost use Rattle.lexopt_options_spec.specs.Legal.{are_accepted, is_required, most};
 ghost use Rattle.lexopt_options_spec.specs.Places.{least};
 ghost use Rattle.lexopt_options_spec.specs.Legal.{refused_value};
 ghost use Rattle.lexopt_options_spec.specs.Legal.{occurs, option};
 ghost use Rattle.lexopt_options_spec.specs.Legal.{positional, positional_count, parsed_item, several};
+ghost use Rattle.lexopt_options_spec.specs.Legal.{with_defaults};
 ghost use Rattle.lexopt_options_spec.specs.Places.{ArePlaces, AreShares, CanTake, owners};
 ghost use Rattle.lexopt_options_spec.specs.States.{LeadsNowhere, Leaves, anything, due};
 ghost use Rattle.lexopt_options_spec.specs.States.{ended, first, further};
@@ -49,7 +50,7 @@ ghost use Rattle.lexopt_options_spec.specs.Help.{HasTextNames, IsEntry, IsHelp, 
 ghost use Rattle.lexopt_options_spec.specs.Help.{IsUsage, LabelForm, Wraps};
 ghost use Rattle.lexopt_options_spec.specs.Help.{beside, blanks, entry, gap, label, label_of};
 ghost use Rattle.lexopt_options_spec.specs.Help.{line_columns, line_text};
-ghost use Rattle.lexopt_laws.specs.Sample.{asking_sample, asks_for_help, asks_for_version};
+ghost use Rattle.lexopt_laws.specs.Sample.{asking_sample, asks_for_help, asks_for_version, explained_mode};
 ghost use Rattle.lexopt_laws.specs.Sample.{backup, described_files, exclude};
 ghost use Rattle.lexopt_laws.specs.Sample.{files, form_in_list, mode, mode_in_list, output, sample};
 ghost use Rattle.lexopt_options_spec.specs.Nearest.{IsDistance, IsHint, IsNearest, beginning};
@@ -58,6 +59,7 @@ ghost use Rattle.lexopt_laws.specs.Sample.{demanding_sample, dest, new, old, old
 ghost use Rattle.lexopt_laws.specs.Sample.{demanding_listed, listed_mode, listed_options, user};
 ghost use Rattle.lexopt_laws.specs.Sample.{hiding_options, hiding_sample, listed_sample};
 ghost use Rattle.lexopt_laws.specs.Sample.{named, names_in_re, options_with_headings, sample_options};
+ghost use Rattle.lexopt_laws.specs.Sample.{options_with_defaults};
 ghost use Rattle.lexopt_laws.specs.Sample.{target, verbose};
 
 // The index of the option with a name: the first, if two have the name. A name is typed whole.
@@ -710,6 +712,23 @@ fn lines_need_what_is_required()
     ensures none_of_one { (l : List Parsed) → Means (sample (sources ∷ []) true) [] l → ⊥ }
 {}
 
+// What is read of lists, where `-o` has the default f and `--mode` the default slow.
+fn defaults_come_before_what_was_read()
+    ensures both { with_defaults options_with_defaults (option 1 None ∷ positional (codes "a") ∷ [])
+        ≡ option 0 (Some (codes "f")) ∷ option 2 (Some (codes "slow")) ∷ option 1 None
+        ∷ positional (codes "a") ∷ [] }
+    ensures one { with_defaults options_with_defaults (option 0 (Some (codes "g")) ∷ [])
+        ≡ option 2 (Some (codes "slow")) ∷ option 0 (Some (codes "g")) ∷ [] }
+    ensures twice { with_defaults options_with_defaults
+        (option 2 (Some (codes "fast")) ∷ option 0 (Some (codes "f")) ∷ option 2 (Some (codes "slow"))
+        ∷ [])
+        ≡ option 2 (Some (codes "fast")) ∷ option 0 (Some (codes "f"))
+        ∷ option 2 (Some (codes "slow")) ∷ [] }
+    ensures no_words { with_defaults options_with_defaults []
+        ≡ option 0 (Some (codes "f")) ∷ option 2 (Some (codes "slow")) ∷ [] }
+    ensures none_declared { with_defaults sample_options (option 0 None ∷ []) ≡ option 0 None ∷ [] }
+{}
+
 // What the option at an index asks for, and what the first option that asks for anything asks for.
 fn options_ask()
     ensures help { asked_at (asks_for_version ∷ asks_for_help ∷ []) 1 ≡ Some for_help }
@@ -1158,6 +1177,13 @@ fn forms_are_shown()
     ensures long_several { LabelForm exclude (codes "--exclude PATTERN...")
         (codes "--exclude" ∷ codes "PATTERN" ∷ [])
         (many (long (codes "exclude")) (codes "PATTERN" ∷ [])) }
+    ensures flag_beside { LabelForm (record (named (codes "quiet")) { beside = a_flag 0x71 })
+        (codes "-q") (codes "-q" ∷ []) (spec.option (short 0x71) None) }
+    ensures negated_flag { LabelForm (record verbose { beside = negation })
+        (codes "--[no-]verbose") (codes "--no-verbose" ∷ [])
+        (spec.option (long (codes "no-verbose")) None) }
+    ensures negated { LabelForm (record verbose { beside = negation })
+        (codes "--[no-]verbose") (codes "--verbose" ∷ []) (spec.option (long (codes "verbose")) None) }
     ensures text_names { HasTextNames verbose }
     ensures no_character { HasTextNames (record verbose { short_name = Some 0xD800 }) → ⊥ }
     ensures no_text { HasTextNames (named (0xFF ∷ [])) → ⊥ }
@@ -1168,7 +1194,7 @@ fn forms_are_shown()
 fn texts_are_laid_out()
     ensures label_of_verbose { label verbose ≡ codes "-v, --verbose" }
     ensures label_of_output { label output ≡ codes "-o, --output=FILE" }
-    ensures no_label { label_of None None flag [] ≡ [] }
+    ensures no_label { label_of nothing None None flag [] ≡ [] }
     ensures line { line_text (codes "tell" ∷ codes "me" ∷ codes "more" ∷ [])
         ≡ codes "tell me more" }
     ensures columns_of_a_line { line_columns (codes "tell" ∷ (0x65 ∷ 0xCC ∷ 0x81 ∷ []) ∷ []) ≡ 6 }
@@ -1249,36 +1275,48 @@ fn paragraphs_are_written()
 
 // Whole helps: the sample of `docs/formats.md`, one with every part, and some with few parts.
 fn helps_are_written()
-    ensures sample { IsHelp
+    ensures sample { IsHelp full
         (record (sample (files ∷ []) true) { options = sample_options ++ asks_for_help ∷ [] }) 80
         (codes "Usage: example_archive [OPTION]... [FILE]...\nPrints what it has read.\n\n  -v, --verbose         tell more\n  -o, --output=FILE     the archive\n  -b[SUFFIX], --backup[=SUFFIX]\n                        keep an archive that is there, with this suffix\n  -x, --exclude PATTERN...\n                        leave these out: all words up to the next option\n  -h, --help            print this help and exit\n") }
-    ensures nothing { IsHelp (record (sample [] true) { options = []; about = [] }) 80
+    ensures nothing { IsHelp full (record (sample [] true) { options = []; about = [] }) 80
         (codes "Usage: example_archive\n") }
-    ensures about_alone { IsHelp (record (sample [] true) { options = [] }) 80
+    ensures about_alone { IsHelp full (record (sample [] true) { options = [] }) 80
         (codes "Usage: example_archive\nPrints what it has read.\n") }
-    ensures positionals { IsHelp
+    ensures positionals { IsHelp full
         (record (sample (mode ∷ target ∷ files ∷ []) true) { options = []; about = [] }) 80
         (codes "Usage: example_archive MODE [TARGET] [FILE]...\n") }
-    ensures every_part { IsHelp (record (sample (mode ∷ described_files ∷ []) true) {
+    ensures every_part { IsHelp full (record (sample (mode ∷ described_files ∷ []) true) {
       options = hiding_options;
       epilogue = codes "Each file is read once." ∷ codes " " ∷ codes "No file is changed." ∷ [];
     }) 80
         (codes "Usage: example_archive [OPTION]... MODE [FILE]...\nPrints what it has read.\n\n  FILE                  a file to read\n\n  -v, --verbose         tell more\n\nEach file is read once.\n\nNo file is changed.\n") }
-    ensures hidden_option { IsHelp
+    ensures hidden_option { IsHelp full
         (record (sample [] true) { options = record output { hidden = true } ∷ []; about = [] }) 80
         (codes "Usage: example_archive\n") }
-    ensures list { IsHelp
+    ensures list { IsHelp full
         (record (sample [] true) { options = listed_mode ∷ []; about = [] }) 80
         (codes "Usage: example_archive [OPTION]...\n\n  -m, --mode=MODE       how to pack: one of fast, slow\n") }
-    ensures list_of_a_positional { IsHelp
+    ensures list_of_a_positional { IsHelp full
         (record (sample (mode_in_list ∷ []) true) { options = []; about = [] }) 80
         (codes "Usage: example_archive MODE\n\n  MODE                  one of fast, slow\n") }
-    ensures headings { IsHelp
+    ensures headings { IsHelp full
         (record (sample [] true) { options = options_with_headings; about = [] }) 80
         (codes "Usage: example_archive [OPTION]...\n\nTelling:\n  -v, --verbose         tell more\n  -o, --output=FILE     the archive\n\nOther:\n  -h, --help            print this help and exit\n") }
-    ensures hidden_list { IsHelp (record (sample [] true) {
+    ensures hidden_list { IsHelp full (record (sample [] true) {
       options = record listed_mode { hides_list = true } ∷ [];
       about = [];
     }) 80
         (codes "Usage: example_archive [OPTION]...\n\n  -m, --mode=MODE       how to pack\n") }
+    ensures in_brief { IsHelp brief (record (sample [] true) {
+      options = explained_mode ∷ [];
+      about = [];
+      epilogue = codes "No file is changed." ∷ [];
+    }) 80
+        (codes "Usage: example_archive [OPTION]...\n\n  -m, --mode=MODE       how to pack: one of fast, slow [default: fast]\n") }
+    ensures in_full { IsHelp full (record (sample [] true) {
+      options = explained_mode ∷ [];
+      about = [];
+      epilogue = codes "No file is changed." ∷ [];
+    }) 80
+        (codes "Usage: example_archive [OPTION]...\n\n  -m, --mode=MODE       How to pack. One of fast, slow. [default: fast]\n\nNo file is changed.\n") }
 {}

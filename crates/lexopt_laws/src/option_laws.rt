@@ -1,6 +1,6 @@
 //! Laws of declared options. `laws.rt` has those that all of lexopt shares.
 ghost use Rattle.std.specs.Prelude.{◌≡◌, ◌≢◌, ◌≤◌, ◌⊎◌, ◌∷◌, ℕ, List, Contains, slice_get};
-ghost use Rattle.std.specs.Prelude.{Option, None, Some, true};
+ghost use Rattle.std.specs.Prelude.{[], Option, None, Some, false, filter, true};
 ghost use Rattle.std.specs.List.{All};
 ghost use Rattle.lexopt_line_spec.specs.Table.{Name};
 ghost use Rattle.lexopt_options_spec.specs.Asking.{AskFor, first_asked, parsed_before};
@@ -13,7 +13,7 @@ ghost use Rattle.lexopt_options_spec.specs.Rest.{HaveNoRest, IsSplit, RestStart,
 ghost use Rattle.lexopt_options_spec.specs.Legal.{IsWithin, Parsed, Means, MeansFront};
 ghost use Rattle.lexopt_options_spec.specs.Legal.{are_accepted, is_option, most, occurs};
 ghost use Rattle.lexopt_options_spec.specs.Legal.{positional_count, positional_words};
-ghost use Rattle.lexopt_options_spec.specs.Legal.{refused_value};
+ghost use Rattle.lexopt_options_spec.specs.Legal.{option, refused_value, with_defaults};
 ghost use Rattle.lexopt_options_spec.specs.Places.{ArePlaces, AreShares, IsNotTaken, least};
 ghost use Rattle.lexopt_options_spec.specs.Places.{refused_word, takes_at};
 ghost use Rattle.lexopt_options_spec.specs.States.{LeadsNowhere, Leaves, State};
@@ -35,6 +35,22 @@ pub fn each_line_means_something_or_stops()
         → StopsAt d words l m → StopsAt d words k n → (l ≡ k) × (m ≡ n) }
     ensures not_both { (d : Declaration) (words : List (List ℕ)) (l k : List Parsed) (m : Mistake)
         → Means d words l → StopsAt d words k m → ⊥ }
+{}
+
+/// What is read of a list that a line means: an option that is in the list is read as it is there; one
+/// that is not has its default, once, if it has one; and the words of positionals stay.
+pub fn options_have_their_defaults()
+    ensures given { (options : List Declared) (l : List Parsed) (i : ℕ) → occurs i l ≡ true
+        → filter (is_option i) (with_defaults options l) ≡ filter (is_option i) l }
+    ensures default { (options : List Declared) (l : List Parsed) (i : ℕ) (o : Declared)
+        (value : List ℕ) → slice_get options i ≡ Some o → o.default ≡ Some value
+        → occurs i l ≡ false
+        → filter (is_option i) (with_defaults options l) ≡ option i (Some value) ∷ [] }
+    ensures none { (options : List Declared) (l : List Parsed) (i : ℕ) (o : Declared)
+        → slice_get options i ≡ Some o → o.default ≡ None
+        → filter (is_option i) (with_defaults options l) ≡ filter (is_option i) l }
+    ensures positionals { (options : List Declared) (l : List Parsed)
+        → positional_words (with_defaults options l) ≡ positional_words l }
 {}
 
 /// At most one role is that of every word that begins with what was typed, is longer, and is not an

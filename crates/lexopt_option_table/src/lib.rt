@@ -64,7 +64,7 @@ fn add_option<F, V, M, S>(
         (table_view table.new)) }
 {
     match option.kind {
-        Kind::Flag(_) | Kind::Help | Kind::Version(_) => Ok(()),
+        Kind::Flag(_) | Kind::Help | Kind::BriefHelp | Kind::Version(_) => Ok(()),
         Kind::Value(_, _) => add_all_names(alloc, option, &mut table.shorts, &mut table.longs),
         Kind::Maybe(_, _) => add_all_names(
             alloc,

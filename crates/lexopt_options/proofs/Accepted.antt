@@ -1,20 +1,14 @@
 -- Whether options accept the values that they have.
-use Rattle.std.proofs.Common.{◌≡◌, ◌==◌, ◌||◌, ◌∷◌, ◌<◌, ◌⊎◌, inl, inr, ℕ, Bool, true, false, not, List, [], map, length, position, cond, Option, Some, None, is_none, option_and_then, slice_get, unwrap_or, get_or, refl, sym, ap, ◌∙◌}
-use Rattle.std.specs.List.{list_any}
-use Rattle.std.specs.Option.{is_some, option_map}
+use Rattle.lexopt_options.proofs.Common.{◌≡◌, ◌==◌, ◌||◌, ◌∷◌, ◌<◌, ◌⊎◌, inl, inr, ℕ, Bool, true, false, not, List, [], map, length, position, cond, Option, Some, None, is_none, option_and_then}
+use Rattle.lexopt_options.proofs.Common.{slice_get, unwrap_or, get_or, refl, sym, ap, ◌∙◌, list_any, is_some, option_map, false≢true, not-true, slice_get-map, slice_get-get_or, slice_get_read}
+use Rattle.lexopt_options.proofs.Common.{list_of, is_required, refused_value, Declared, option_view, words_view}
 use Rattle.std.specs.Cmp.Lexicographic.{pointwise}
 use Rattle.std.specs.Borrow.{Bor}
-use Rattle.std.proofs.lemmas.Bool.{false≢true}
 use Rattle.std.proofs.lemmas.List.Quantifiers.{position-Some}
-use Rattle.std.proofs.lemmas.Option.{slice_get-map, slice_get-get_or, slice_get_read}
-use Rattle.lexopt_options_spec.specs.Completion.{list_of}
 use Rattle.lexopt_options_spec.specs.Declaration as spec
 use Rattle.lexopt_options_spec.specs.Legal as legal
-use Rattle.lexopt_options_spec.specs.Legal.{is_required, refused_value}
-use Rattle.lexopt_declaration.specs.declared.declaration.Declared.{Declared}
 use Rattle.lexopt_declaration.specs.declared.declaration.Words.{Words}
 use Rattle.lexopt_declaration.specs.declared.declaration.Words.TheVariants as variant
-use Rattle.lexopt_declaration.specs.Models.{option_view, words_view}
 
 -- a value that is listed
 pub listed_by : (value : List ℕ) (values : List (Bor (List ℕ))) → list_any (λ own. pointwise ◌==◌ own.now value) values ≡ list_any (λ own. pointwise ◌==◌ own value) (map (λ own. own.now) values)
@@ -32,10 +26,8 @@ accepts_any words (inr (inr is)) value = ap (λ w. spec.accepts (words_view w) v
 
 -- only a list refuses a value
 pub refused_list : (words : spec.Words) (value : List ℕ) → spec.accepts words value ≡ false → words ≡ spec.listed (list_of words)
-refused_list spec.files value is = absurd (false≢true (sym is))
-refused_list spec.directories value is = absurd (false≢true (sym is))
-refused_list spec.text value is = absurd (false≢true (sym is))
 refused_list (spec.listed values) value is = refl
+refused_list words value is = absurd (false≢true (sym is))
 
 none_found : (p : List ℕ → Bool) (values : List (List ℕ)) → ((v : List ℕ) → p v ≡ false) → position p values ≡ None
 none_found p [] never = refl
@@ -94,13 +86,9 @@ first_refused options i o values n at is =
 pub any_accepted : (words : spec.Words) (values : List (List ℕ)) → ((value : List ℕ) → spec.accepts words value ≡ true) → position (λ value. not (spec.accepts words value)) values ≡ None
 any_accepted words values all = none_found (λ value. not (spec.accepts words value)) values (λ value. ap not (all value))
 
-not_true : (b : Bool) → not b ≡ true → b ≡ false
-not_true true is = absurd (false≢true is)
-not_true false is = refl
-
 -- the value at the place of the first of several that is not accepted
 pub place_refused : (words : spec.Words) (values : List (List ℕ)) (place : ℕ) (value : List ℕ) → Some place ≡ position (λ value. not (spec.accepts words value)) values → value ≡ get_or values place value
     → (slice_get values place ≡ Some value) × (spec.accepts words value ≡ false)
 place_refused words values place value found is =
     let first = position-Some (λ value. not (spec.accepts words value)) values place value (sym found) in
-    (at_place values place value first.0 is, not_true (spec.accepts words value) (ap (λ v. not (spec.accepts words v)) is ∙ first.1))
+    (at_place values place value first.0 is, not-true (spec.accepts words value) (ap (λ v. not (spec.accepts words v)) is ∙ first.1))

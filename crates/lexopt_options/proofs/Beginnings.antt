@@ -1,28 +1,20 @@
 -- Words that are read as the beginning of a line, and where their rest begins.
-use Rattle.std.proofs.Common.{◌≡◌, ◌↔◌, IsTrue, ℕ, Bool, true, false, arith, length, List, [], ◌∷◌, ◌++◌, Option, Some, None, refl, sym, ap, subst, ◌∙◌}
-use Rattle.lexopt_spec.specs.UnreadLine.{IsNormalIn, IsPlain, UnreadLine, dash, pending, pending_in}
+use Rattle.lexopt_options.proofs.Common.{◌≡◌, ◌↔◌, IsTrue, ℕ, Bool, true, false, arith, length, List, [], ◌∷◌, ◌++◌, Option, Some, None, refl, sym, ap, subst, ◌∙◌, IsNormalIn, IsPlain, UnreadLine}
+use Rattle.lexopt_options.proofs.Common.{dash, pending, pending_in, Next, NextStep, option_reply, start, Name, Declaration, index_of, is_sound, IsWithin, MeansFront, Parsed, most, positional_count}
+use Rattle.lexopt_options.proofs.Common.{LeadsNowhere, Leaves, Says, leaves_anything, leaves_due, leaves_first, leaves_further, leaves_ended, state_at_end, takes_positional, IsOfOption, Mistake}
+use Rattle.lexopt_options.proofs.Common.{ReadsUpTo, Stops, invalid_value, missing_value, not_declared, unexpected_value, unknown_option, value_of_flag, false≢true, same_last, front_says, says_front}
+use Rattle.lexopt_options.proofs.Common.{says_once, words_count, ◌≤◌}
 use Rattle.lexopt_spec.specs.Steps as steps
-use Rattle.lexopt_spec.specs.Steps.{Next, NextStep}
-use Rattle.lexopt_line_spec.specs.Readings.{option_reply, start}
 use Rattle.lexopt_line_spec.specs.Table as table
-use Rattle.lexopt_line_spec.specs.Table.{Name}
-use Rattle.lexopt_options_spec.specs.Declaration.{Declaration, index_of, is_sound}
 use Rattle.lexopt_options_spec.specs.Legal as legal
-use Rattle.lexopt_options_spec.specs.Legal.{IsWithin, MeansFront, Parsed, most, positional_count}
 use Rattle.lexopt_options_spec.specs.Rest.{EndsSeparated, IsSplit, separated, surplus}
 use Rattle.lexopt_options_spec.specs.Rest as rests
 use Rattle.lexopt_options_spec.specs.States as spec
-use Rattle.lexopt_options_spec.specs.States.{LeadsNowhere, Leaves, Says, leaves_anything, leaves_due, leaves_first, leaves_further, leaves_ended, state_at_end, takes_positional}
-use Rattle.lexopt_options_spec.specs.Stops.{IsOfOption, Mistake, ReadsUpTo, Stops, invalid_value, missing_value, not_declared, unexpected_value, unknown_option, value_of_flag}
-use Rattle.std.proofs.lemmas.Bool.{false≢true}
 use Rattle.lexopt_options_spec.proofs.Cuts.{enough}
 use Rattle.lexopt_options_spec.proofs.Growing.{EndsSo, ended_before, ends_so, open_there, separator_last}
-use Rattle.lexopt_options_spec.proofs.Lists.{same_last}
 use Rattle.lexopt_options_spec.proofs.OneRest.{ended_alone, mistaken, separator_left, surplus_alone}
 use Rattle.lexopt_options_spec.proofs.Reached.{surplus_nowhere, undeclared_nowhere, unexpected_nowhere, value_stops, values_nowhere, values_stop}
 use Rattle.lexopt_options_spec.proofs.Rests.{before_here, front_read, word_read}
-use Rattle.lexopt_options_spec.proofs.States.{front_says, says_front, says_once}
-use Rattle.lexopt_options_spec.proofs.Taken.{words_count}
 use Rattle.lexopt_options.specs.Begun.{IsBegun, TellsEnd, TellsRest, TellsSeparator, is_ended, surplus_begun}
 use Rattle.lexopt_options.specs.RestStarts.{is_separated, start_view}
 use Rattle.lexopt_options.specs.declared.rest.RestStart.{RestStart}
@@ -83,9 +75,7 @@ lacking_stops : (d : Declaration) (u v w : UnreadLine) (name : Name) (index : �
 lacking_stops d u v w name index (state.Due i) sound next found (same, k, none, empty) l = value_stops d l u v name index next found (sym (kind_of_index d.options name index sound found) ∙ k) none empty
 lacking_stops d u v w name index (state.First i) sound next found (same, k, none, empty) l =
     values_stop d l u v name index next found (sym (kind_of_index d.options name index sound found) ∙ k) none (subst (λ ws. ¬ IsNormalIn v.ended ws) (sym empty) (λ normal. normal))
-lacking_stops d u v w name index state.Anything sound next found lacks l = absurd lacks
-lacking_stops d u v w name index (state.Further i) sound next found lacks l = absurd lacks
-lacking_stops d u v w name index state.Ended sound next found lacks l = absurd lacks
+lacking_stops d u v w name index other sound next found lacks l = absurd lacks
 
 -- a separator that ends them would end a front
 ends_front : (d : Declaration) (words : List (List ℕ)) (l : List Parsed) → Says d words l → EndsSeparated d words l → MeansFront d words l
@@ -98,9 +88,7 @@ lacking_tells d index w v words front is lacks same given = subst (λ s. TellsSe
     by : (lacks : State) → IsAfterName d index v (after.Lacks lacks) w → Leaves d words is.l (state_view lacks) → TellsSeparator d words (is_ended lacks)
     by (state.Due i) given (leaves_due j none more) = λ l says ends. none l (ends_front d words l says ends)
     by (state.First i) given (leaves_first j none more nor) = λ l says ends. none l (ends_front d words l says ends)
-    by state.Anything given leaves = absurd given
-    by (state.Further i) given leaves = absurd given
-    by state.Ended given leaves = absurd given
+    by other given leaves = absurd given
 
 pub lacking_begun : {begins : rests.RestStart} (d : Declaration) (u v w : UnreadLine) (words : List (List ℕ)) (front : Front) (last : Option (ℕ × List ℕ)) (going : Option ℕ) (name : Name) (index : ℕ) → is_sound d.options ≡ true
     → HasReached d (start d.short_equals words) u front.words.items front.accepted last going → front.last ≡ None → Next u (option_reply name) v → index_of d.options name ≡ Some index → IsAfterName d index v (after.Lacks front.state) w
@@ -168,16 +156,13 @@ rest_follows d words found is takes full = λ word plain. by word plain is.l (st
     by : (word : List ℕ) → IsPlain false word → (l : List Parsed) (s : spec.State) → Leaves d words l s → takes_positional s ≡ true → most d.positionals ≡ Some (positional_count l) → IsSplit surplus d (words ++ word ∷ []) words word []
     by word plain l spec.anything (leaves_anything says more) takes full = split word l says.says (more word plain) full
     by word plain l spec.ended (leaves_ended says more) takes full = split word l says (more word) full
-    by word plain l (spec.due i) leaves takes full = absurd (false≢true takes)
-    by word plain l (spec.first i) leaves takes full = absurd (false≢true takes)
-    by word plain l (spec.further i) leaves takes full = absurd (false≢true takes)
+    by word plain l s leaves takes full = absurd (false≢true takes)
 
 -- the words before it mean something
 split_front : (begins : rests.RestStart) (d : Declaration) (words front more : List (List ℕ)) (word : List ℕ) (part : IsSplit begins d words front word more) → MeansFront d front part.l
-split_front surplus d words front more word part = says_front d front part.l part.says (within (most d.positionals) (positional_count part.l) part.here)
-  where
-    within : (limit : Option ℕ) (n : ℕ) → limit ≡ Some n → IsWithin n limit
-    within limit n is = rw is omega arith
+split_front surplus d words front more word part =
+    let enough : positional_count part.l ≤ positional_count part.l = omega arith in
+    says_front d front part.l part.says (subst (IsWithin (positional_count part.l)) (sym part.here) enough)
 split_front separated d words front more word part = says_front d front part.l part.says part.here.within
 
 -- no plain word begins it otherwise
@@ -211,7 +196,4 @@ separator_follows d words found is = by found.state (subst (λ s. Leaves d words
   where
     by : (s : State) → Leaves d words is.l (state_view s) → TellsSeparator d words (is_ended s) → TellsRest separated d words (is_ended s)
     by state.Ended (leaves_ended says more) (l, own, ends) = λ word plain. record { words_are = refl; l = l; says = own; here = ends; begins = subst (λ m. Says d (words ++ word ∷ []) (m ++ legal.positional word ∷ [])) (says_once d words is.l l says own) (more word) }
-    by state.Anything leaves none = λ word plain part. none part.l part.says part.here
-    by (state.Due i) leaves none = λ word plain part. none part.l part.says part.here
-    by (state.First i) leaves none = λ word plain part. none part.l part.says part.here
-    by (state.Further i) leaves none = λ word plain part. none part.l part.says part.here
+    by s leaves none = λ word plain part. none part.l part.says part.here

@@ -1,35 +1,22 @@
 -- What is offered after some words.
-use Rattle.std.proofs.Common.{append-nil, if◌then◌else◌, zero, suc, ◌≡◌, ◌≤◌, ℕ, Bool, true, false, List, [], ◌∷◌, ◌++◌, map, filter, length, Option, Some, None, Vec, nat_eq, option_map, refl, sym, ap, subst, ◌∙◌, inl, inr, arith}
-use Rattle.std.proofs.Common.{Result, Ok, Err, IfOk}
+use Rattle.lexopt_options.proofs.Common.{append-nil, zero, suc, ◌≡◌, ◌≤◌, ℕ, Bool, true, false, List, [], ◌∷◌, ◌++◌, map, filter, length, Option, Some, None, Vec, nat_eq, option_map, refl, sym, ap}
+use Rattle.lexopt_options.proofs.Common.{subst, ◌∙◌, inl, inr, arith, Result, Ok, Err, IfOk, Contains, flat_map, starts_with, IsUtf8, ◌<◌, ◌==◌, ◌≢◌, encode_utf8, and_parts, eqb-true, false≢true}
+use Rattle.lexopt_options.proofs.Common.{filter-append, same_Some, slice_get_within, BeginsWith, dash, MeansFront, parsed_item, last_item, same_last, front_says, says_once, Says, Item, Name, AreText}
+use Rattle.lexopt_options.proofs.Common.{HasRole, IsJoined, IsOption, JoinsValue, is_offered, joined_at, list_of, listed_by, offered_values, spelling, spellings, texts, values_at, filled}
+use Rattle.lexopt_options.proofs.Common.{positional_words, words_at, declaration_of, options_of, long_name, option_view, positional_view, short_name, spelling_view, words_view}
 use Rattle.std.specs.Global.{Global}
-use Rattle.std.specs.List.{Contains, flat_map, starts_with}
-use Rattle.std.specs.Str.{IsUtf8}
-use Rattle.std.proofs.Common.{◌<◌, ◌==◌, ◌≢◌, encode_utf8, position}
-use Rattle.std.proofs.lemmas.Bool.{and_parts, eqb-true, false≢true}
-use Rattle.std.proofs.lemmas.List.Quantifiers.{position-Some}
 use Rattle.std.specs.declared.alloc.AllocError.{AllocError}
-use Rattle.lexopt_spec.specs.UnreadLine.{BeginsWith, dash}
 use Rattle.lexopt_options_spec.specs.Declaration.{Declaration, Declared, has_name, index_of, is_sound}
 use Rattle.lexopt_options_spec.specs.Legal as legal
-use Rattle.lexopt_options_spec.specs.Legal.{MeansFront, parsed_item}
-use Rattle.lexopt_options_spec.proofs.Lists.{first_same, same_last}
-use Rattle.lexopt_options_spec.proofs.States.{front_says, says_once}
-use Rattle.lexopt_options_spec.specs.States.{Says}
+use Rattle.lexopt_options_spec.proofs.Sound.{known, option_there}
 use Rattle.lexopt_line_spec.specs.Spelling.{no_words, plain_word}
 use Rattle.lexopt_line_spec.specs.Table as table
-use Rattle.lexopt_line_spec.specs.Table.{Item, Name}
 use Rattle.lexopt_options_spec.specs.Completion as spec
-use Rattle.lexopt_options_spec.specs.Completion.{AreText, HasRole, IsJoined, IsOption, JoinsValue, is_offered, joined_at, list_of, listed_by, offered_values, spelling, spellings, texts, values_at}
 use Rattle.lexopt_options_spec.proofs.Roles.{extends}
 use Rattle.lexopt_options_spec.proofs.Occurs.{AreNamed, occurs_accepted, occurs_open, occurs_taken}
-use Rattle.lexopt_options_spec.proofs.Taken.{filled}
 use Rattle.lexopt_options_spec.specs.Declaration.{Positional, are_listable}
-use Rattle.lexopt_options_spec.specs.Legal.{positional_words}
-use Rattle.lexopt_options_spec.specs.Completion.{words_at}
 use Rattle.lexopt_options.specs.declared.options.Options.{Options}
-use Rattle.lexopt_options.specs.Declarations.{declaration_of, options_of}
 use Rattle.lexopt_options_spec.proofs.Tables.{long_named, short_named}
-use Rattle.lexopt_declaration.specs.Models.{long_name, option_view, positional_view, short_name, spelling_view, words_view}
 use Rattle.lexopt_declaration.specs.declared.spellings.Spelling.{Spelling}
 use Rattle.lexopt_declaration.specs.declared.declaration.Positional as rust_positional
 use Rattle.lexopt_declaration.specs.declared.declaration.Declared as rust
@@ -99,13 +86,10 @@ offered_all d typed (Ok list) options bytes P sound good named utf8 can are also
     (is ∙ ap (λ b. spec.offered b (spellings options)) also ∙ ap (λ os. spec.offered typed (spellings os)) are)
 offered_all d typed (Err e) options bytes P sound good named utf8 can are also text is = tt
 
-none_there : (s : List ℕ) → Contains [] s → ⊥
-none_there s (k, below, is) = omega (arith, below)
-
 -- no spelling is offered where no option can come
 pub none_stands : (d : Declaration) (words : List (List ℕ)) (typed : List ℕ) → CanCome d words false → AreOffered d words typed []
 none_stands d words typed closed = record {
-  sound = λ s has. absurd (none_there s has);
+  sound = λ s has. absurd (let below = has.1 in omega (arith, below));
   complete = λ s completes. absurd (false≢true (closed.1 (completes.possible.before, occurs_open d words s completes.possible, occurs_accepted d words s completes.possible, occurs_taken d words s completes.possible)));
   in_order = inr refl;
 }
@@ -121,7 +105,7 @@ dashed (table.long name) = (dash ∷ name, refl)
 
 pub none_begins : (d : Declaration) (words : List (List ℕ)) (typed : List ℕ) → typed ≢ [] → ¬ BeginsWith dash typed → AreOffered d words typed []
 none_begins d words typed some other = record {
-  sound = λ s has. absurd (none_there s has);
+  sound = λ s has. absurd (let below = has.1 in omega (arith, below));
   complete = λ s completes.
       let p = completes.possible in
       let rest = dashed p.name in
@@ -131,42 +115,21 @@ none_begins d words typed some other = record {
 
 -- ---- the option that a word belongs to is declared
 
-known : {X Y : Type 0} (f : X → Y) (o : Option X) (y : Y) → option_map f o ≡ Some y → (x : X) × (o ≡ Some x) × (f x ≡ y)
-known f None y is = absurd (let e : None ≡ Some y = is in cc)
-known f (Some x) y is = (x, refl, cc)
-
-declared_by : (options : List Declared) (items : List Item) (l before : List legal.Parsed) (s : legal.Parsed) → map (parsed_item options) items ≡ map (λ x. Some x) l → l ≡ before ++ s ∷ []
-    → (earlier : List legal.Parsed) → IsDeclared (length options) (spec.role_of earlier s)
-declared_by options [] l [] s parsed is earlier = absurd (let e : [] ≡ Some s ∷ [] = parsed ∙ ap (map (λ x. Some x)) is in cc)
-declared_by options [] l (b ∷ before) s parsed is earlier = absurd (let e : [] ≡ Some b ∷ map (λ x. Some x) (before ++ s ∷ []) = parsed ∙ ap (map (λ x. Some x)) is in cc)
-declared_by options (item ∷ items) l (b ∷ before) s parsed is earlier =
-    let parts = first_same (parsed_item options item) (Some b) (map (parsed_item options) items) (map (λ x. Some x) (before ++ s ∷ [])) (parsed ∙ ap (map (λ x. Some x)) is) in
-    declared_by options items (before ++ s ∷ []) before s parts.1 refl earlier
-declared_by options (item ∷ items) l [] s parsed is earlier =
-    let parts = first_same (parsed_item options item) (Some s) (map (parsed_item options) items) [] (parsed ∙ ap (map (λ x. Some x)) is) in
-    one item parts.0
-  where
-    within : (name : Name) (i : ℕ) → index_of options name ≡ Some i → i < length options
-    within name i found = inside options found
-      where
-        inside : (os : List Declared) → position (has_name name) os ≡ Some i → i < length os
-        inside [] found = absurd (let e : None ≡ Some i = found in cc)
-        inside (o ∷ os) found = (position-Some (has_name name) (o ∷ os) i o found).0
-
-    one : (item : Item) → parsed_item options item ≡ Some s → IsDeclared (length options) (spec.role_of earlier s)
-    one (table.option name value) so =
-        let index = known (λ i. legal.option i value) (index_of options name) s so in
-        subst (λ x. IsDeclared (length options) (spec.role_of earlier x)) index.2 (within name index.0 index.1)
-    one (table.many name values) so =
-        let index = known (λ i. legal.several i values) (index_of options name) s so in
-        subst (λ x. IsDeclared (length options) (spec.role_of earlier x)) index.2 (within name index.0 index.1)
-    one (table.positional word) so =
-        let e : legal.positional word ≡ s = cc in
-        subst (λ x. IsDeclared (length options) (spec.role_of earlier x)) e tt
-
 -- the last thing that words mean
 last_declared : (d : Declaration) (words : List (List ℕ)) (before : List legal.Parsed) (s : legal.Parsed) → MeansFront d words (before ++ s ∷ []) → IsDeclared (length d.options) (spec.role_of before s)
-last_declared d words before s means = declared_by d.options means.items (before ++ s ∷ []) before s means.parsed refl before
+last_declared d words before s means = let own = last_item (parsed_item d.options) means.items before s means.parsed in one own.1 own.3
+  where
+    within : (name : Name) (i : ℕ) → index_of d.options name ≡ Some i → i < length d.options
+    within name i found = let there = option_there d.options name i found in slice_get_within d.options i there.0 there.1
+
+    one : (item : Item) → parsed_item d.options item ≡ Some s → IsDeclared (length d.options) (spec.role_of before s)
+    one (table.option name value) so =
+        let index = known (λ i. legal.option i value) (index_of d.options name) s so in
+        subst (λ x. IsDeclared (length d.options) (spec.role_of before x)) index.2 (within name index.0 index.1)
+    one (table.many name values) so =
+        let index = known (λ i. legal.several i values) (index_of d.options name) s so in
+        subst (λ x. IsDeclared (length d.options) (spec.role_of before x)) index.2 (within name index.0 index.1)
+    one (table.positional word) so = subst (λ x. IsDeclared (length d.options) (spec.role_of before x)) (same_Some (legal.positional word) s so) tt
 
 pub role_declared : (d : Declaration) (words : List (List ℕ)) (typed : List ℕ) (role : spec.Role) → HasRole d words typed (Some role) → IsDeclared (length d.options) role
 role_declared d words typed role is =
@@ -185,31 +148,21 @@ joined_declared d words typed i before joins = of joins.last joins.is (last_decl
 
 word_so : {F V M S : Type 0} (options : List (rust.Declared F V M S)) (r : Option spec.Role) (word : Option (Role F V M S)) → IsRoleAt options r word → word_values word ≡ values_at (map option_view options) r
 word_so options None None is = refl
-word_so options None (Some w) is = absurd is
-word_so options (Some (spec.value i)) None is = absurd is
-word_so options (Some (spec.argument n)) None is = absurd is
 word_so options (Some (spec.value i)) (Some (role.Value o)) is = ap listed_by (sym (view_there options i o.now is))
-word_so options (Some (spec.value i)) (Some role.Argument) is = absurd is
 word_so options (Some (spec.argument n)) (Some role.Argument) is = refl
-word_so options (Some (spec.argument n)) (Some (role.Value o)) is = absurd is
+word_so options r word is = absurd is
 
 joined_so : {F V M S : Type 0} (options : List (rust.Declared F V M S)) (joined : Option spec.Joined) (found : Option (Joined F V M S)) → IsJoinedAt options joined found → joined_values found ≡ joined_at (map option_view options) joined
 joined_so options None None is = refl
-joined_so options None (Some f) is = absurd is
-joined_so options (Some j) None is = absurd is
 joined_so options (Some j) (Some f) is =
     ap (λ (b : List ℕ). map (λ v. b ++ v) (list_of (words_view f.option.now.words))) (sym is.1) ∙ ap (λ o. map (λ v. j.before ++ v) (listed_by o)) (sym (view_there options j.index f.option.now is.0))
-
-filter_append : (p : List ℕ → Bool) (xs ys : List (List ℕ)) → filter p (xs ++ ys) ≡ filter p xs ++ filter p ys
-filter_append p [] ys = refl
-filter_append p (x ∷ xs) ys = elim (p x) as (λ b. (if b then x ∷ filter p (xs ++ ys) else filter p (xs ++ ys)) ≡ (if b then x ∷ filter p xs else filter p xs) ++ filter p ys)
-    [ true ↦ ap (λ l. x ∷ l) (filter_append p xs ys) | false ↦ filter_append p xs ys ]
+joined_so options joined found is = absurd is
 
 -- the words of the positionals that begin with what was typed, of each positional in turn
 words_are_so : (ps : List Positional) (typed : List ℕ) (owners : List ℕ) → flat_map (words_so ps typed) owners ≡ filter (λ v. starts_with nat_eq v typed) (flat_map (words_at ps) owners)
 words_are_so ps typed [] = refl
 words_are_so ps typed (i ∷ owners) =
-    ap (λ l. words_so ps typed i ++ l) (words_are_so ps typed owners) ∙ sym (filter_append (λ v. starts_with nat_eq v typed) (words_at ps i) (flat_map (words_at ps) owners))
+    ap (λ l. words_so ps typed i ++ l) (words_are_so ps typed owners) ∙ sym (filter-append (λ v. starts_with nat_eq v typed) (words_at ps i) (flat_map (words_at ps) owners))
 
 -- the values of the options that are found are those of the options at their indices
 pub values_are : {F V P M S : Type 0} (o : Options F V P M S) (typed : List ℕ) (r : Option spec.Role) (owners : List ℕ) (i : Option spec.Joined) (word : Option (Role F V M S)) (joined : Option (Joined F V M S))
@@ -228,9 +181,3 @@ no_words_past ps typed i l past = sym (append-nil l) ∙ ap (λ m. l ++ m) (sym 
     none [] i past = refl
     none (p ∷ ps) zero past = absurd (omega (arith, past))
     none (p ∷ ps) (suc i) past = none ps i (omega (arith, past))
-
--- the same for the positionals and indices that calls return
-pub values_given : {F V P M S : Type 0} (o : Options F V P M S) (typed : List ℕ) (r : Option spec.Role) (ps : List Positional) (given owners : List ℕ) (i : Option spec.Joined) (word : Option (Role F V M S)) (joined : Option (Joined F V M S))
-    → ps ≡ (declaration_of o).positionals → given ≡ owners → IsRoleAt (options_of o) r word → IsJoinedAt (options_of o) i joined → values_so ps typed word given joined ≡ offered_values (declaration_of o) typed r owners i
-values_given o typed r ps given owners i word joined ps_are same is at =
-    ap (λ qs. values_so qs typed word given joined) ps_are ∙ ap (λ l. values_so (declaration_of o).positionals typed word l joined) same ∙ values_are o typed r owners i word joined is at

@@ -1,46 +1,35 @@
 -- Words as the beginning of a line: what they mean, and what the next word is.
-use Rattle.std.proofs.Common.{◌≡◌, ◌≢◌, ◌↔◌, ◌<◌, ◌+◌, ◌&&◌, ◌⊎◌, ℕ, Bool, IsTrue, true, false, not, is_none, position, get_or, slice_get, string_bytes, unwrap_or, List, [], ◌∷◌, ◌++◌, map, length, Option, Some, None, option_map, refl, sym, ap, subst, ◌∙◌, inl, inr, arith}
-use Rattle.std.proofs.Common.{Result, Ok, Err, IfOk}
+use Rattle.lexopt_options.proofs.Common.{◌≡◌, ◌≢◌, ◌↔◌, ◌<◌, ◌+◌, ◌&&◌, ◌⊎◌, ℕ, Bool, IsTrue, true, false, not, is_none, position, get_or, slice_get, string_bytes, unwrap_or, List, [], ◌∷◌, ◌++◌, map}
+use Rattle.lexopt_options.proofs.Common.{length, Option, Some, None, option_map, refl, sym, ap, subst, ◌∙◌, inl, inr, arith, Result, Ok, Err, IfOk, IsUtf8, false≢true, dash, BeginsWith, IsLine}
+use Rattle.lexopt_options.proofs.Common.{IsNormalIn, UnreadLine, pending, Next, OptionalStep, Value, Kind, Name, Values, at_most_one, all, ReadsValues, ValuesEndBy, item_with, option_reply, start}
+use Rattle.lexopt_options.proofs.Common.{refusal_reply, take_reply, kind_of, option_view, words_view, CanBeTaken, HasRole, IsJoined, IsOpen, IsOption, JoinsValue, value_of, Declaration, index_of}
+use Rattle.lexopt_options.proofs.Common.{is_sound, IsWithin, MeansFront, Parsed, accepts_at, are_accepted, counts, most, positional_count, positional_words, refused_value, LeadsNowhere, Leaves, Says}
+use Rattle.lexopt_options.proofs.Common.{leaves_anything, leaves_due, leaves_first, leaves_further, leaves_ended, role_in, state_at_end, not_empty, same_last, count_append, words_append, words_count}
+use Rattle.lexopt_options.proofs.Common.{append-nil}
 use Rattle.std.specs.Borrow.{Bor}
-use Rattle.std.specs.Str.{IsUtf8}
-use Rattle.std.proofs.lemmas.Bool.{false≢true}
 use Rattle.std.proofs.Math.Bool.{and-true}
 use Rattle.std.proofs.lemmas.List.Folds.{list_all-append}
-use Rattle.lexopt_spec.specs.UnreadLine.{dash, BeginsWith, IsLine, IsNormalIn, UnreadLine, pending}
 use Rattle.lexopt_spec.specs.Steps as steps
-use Rattle.lexopt_spec.specs.Steps.{Next, OptionalStep, Value}
 use Rattle.lexopt_spec.specs.Views.{ValuesStep}
 use Rattle.lexopt_spec.specs.Runs as calls
 use Rattle.lexopt_spec.specs.Runs.{Step}
 use Rattle.lexopt_line_spec.specs.Bound.{bound}
 use Rattle.lexopt_line_spec.specs.Table as table
-use Rattle.lexopt_line_spec.specs.Table.{Kind, Name}
-use Rattle.lexopt_line_spec.specs.Values.{Values, at_most_one, all, ReadsValues, ValuesEndBy, item_with}
-use Rattle.lexopt_line_spec.specs.Readings.{option_reply, start}
 use Rattle.lexopt_line_spec.proofs.RunAccounts.{step_line}
 use Rattle.lexopt_base.specs.Pending.{is_joined}
-use Rattle.lexopt_base.specs.Refusals.{refusal_reply, take_reply}
 use Rattle.lexopt_base.specs.declared.refusal.Refusal.{Refusal}
 use Rattle.lexopt_base.specs.declared.refusal.Refusal.TheVariants.{MissingValue, OutOfMemory, UnexpectedValue}
-use Rattle.lexopt_declaration.specs.Models.{kind_of, option_view, words_view}
 use Rattle.lexopt_declaration.specs.declared.declaration.Declared as rust
 use Rattle.lexopt_declaration.specs.declared.declaration.Kind as rust_kind
 use Rattle.lexopt_declaration.specs.declared.declaration.Kind.TheVariants as rust_kinds
-use Rattle.lexopt_options_spec.specs.Completion.{CanBeTaken, HasRole, IsJoined, IsOpen, IsOption, JoinsValue, value_of}
 use Rattle.lexopt_options_spec.specs.Declaration as declared
-use Rattle.lexopt_options_spec.specs.Declaration.{Declaration, index_of, is_sound}
 use Rattle.lexopt_options_spec.specs.Legal as legal
-use Rattle.lexopt_options_spec.specs.Legal.{IsWithin, MeansFront, Parsed, accepts_at, are_accepted, counts, most, positional_count, positional_words, refused_value}
 use Rattle.lexopt_options_spec.specs.States as spec
-use Rattle.lexopt_options_spec.specs.States.{LeadsNowhere, Leaves, Says, leaves_anything, leaves_due, leaves_first, leaves_further, leaves_ended, role_in, state_at_end}
 use Rattle.lexopt_options_spec.proofs.Fronts.{one_front}
 use Rattle.lexopt_options_spec.proofs.Cuts.{enough}
 use Rattle.lexopt_options_spec.proofs.Growing.{Grows, grows_flag, grows_one, grows_optional, grows_positional, grows_several, values_lack}
-use Rattle.lexopt_options_spec.proofs.Lists.{same_last, no_last}
-use Rattle.lexopt_options_spec.proofs.Lists.{count_append}
 use Rattle.lexopt_options_spec.proofs.Reached.{Reached, closed_reached, end_leaves, first_due, nothing_reached, open_reached, value_due}
 use Rattle.lexopt_options_spec.proofs.States.{front_says, says_front, never_open, nowhere_open, open_there, role_there, says_once}
-use Rattle.lexopt_options_spec.proofs.Taken.{words_append, words_count}
 use Rattle.lexopt_options.specs.Completions.{CanCome, Opens}
 use Rattle.lexopt_options.specs.Kinds.{kind_at}
 use Rattle.lexopt_options.specs.Reading.{ReadsParsed, parsed_with}
@@ -87,7 +76,7 @@ has_nothing d s words line none = record {
   at = nothing_reached d s line;
   words_are = sym none;
   accepted_is = refl;
-  last_is = λ others last are. absurd (no_last others last are);
+  last_is = λ others last are. absurd (not_empty others [] last (sym are));
 }
 
 accepted_more : (options : List _) (l : List Parsed) (s : Parsed) → are_accepted options (l ++ s ∷ []) ≡ (are_accepted options l && is_none (refused_value options s))
@@ -131,10 +120,11 @@ first_is i [] = refl
 first_is i (v ∷ values) = refl
 
 pub flag_here : {F V M S : Type 0} (options : List declared.Declared) (i : ℕ) (o : rust.Declared F V M S) → slice_get options i ≡ Some (option_view o)
-    → ((x : F) × (o.kind ≡ rust_kinds.Flag x)) ⊎ ((o.kind ≡ rust_kinds.Help) ⊎ ((x : Bor (List ℕ)) × (o.kind ≡ rust_kinds.Version x))) → table.flag ≡ kind_at options i
+    → ((x : F) × (o.kind ≡ rust_kinds.Flag x)) ⊎ ((o.kind ≡ rust_kinds.Help) ⊎ ((o.kind ≡ rust_kinds.BriefHelp) ⊎ ((x : Bor (List ℕ)) × (o.kind ≡ rust_kinds.Version x)))) → table.flag ≡ kind_at options i
 flag_here options i o at (inl is) = kind_here options i o (rust_kinds.Flag is.0) at is.1
 flag_here options i o at (inr (inl is)) = kind_here options i o rust_kinds.Help at is
-flag_here options i o at (inr (inr is)) = kind_here options i o (rust_kinds.Version is.0) at is.1
+flag_here options i o at (inr (inr (inl is))) = kind_here options i o rust_kinds.BriefHelp at is
+flag_here options i o at (inr (inr (inr is))) = kind_here options i o (rust_kinds.Version is.0) at is.1
 
 -- what a call returned
 pub taken_so : (v w : UnreadLine) (r x : Result (List ℕ) Refusal) → r ≡ x → Value v (take_reply r) w → Value v (take_reply x) w
@@ -185,10 +175,6 @@ no_words : (index : ℕ) (values : Values) → positional_words (parsed_with ind
 no_words index (at_most_one value) = refl
 no_words index (all values) = refl
 
-append_none : (l : List (List ℕ)) → l ++ [] ≡ l
-append_none [] = refl
-append_none (x ∷ l) = ap (λ m. x ∷ m) (append_none l)
-
 -- several values are a list
 abbrev IsKindOf : Kind → Values → Type 0
 IsKindOf table.several (at_most_one value) = ⊥
@@ -202,16 +188,11 @@ reached_by d s u w l going name index k values pending_is false at found grow li
 reached_by d s u w l going name index table.several (all values) pending_is true at found grow line within fits is =
     open_reached d s u w l going name index values at (subst (λ b. Grows (declared.table d.options) u (table.many name values) b w) is grow) found line within
 reached_by d s u w l going name index table.several (at_most_one value) pending_is true at found grow line within fits is = absurd fits
-reached_by d s u w l going name index table.flag values pending_is true at found grow line within fits is = absurd (false≢true is)
-reached_by d s u w l going name index table.one values pending_is true at found grow line within fits is = absurd (false≢true is)
-reached_by d s u w l going name index table.optional values pending_is true at found grow line within fits is = absurd (false≢true is)
+reached_by d s u w l going name index k values pending_is true at found grow line within fits is = absurd (false≢true is)
 
 fits : (k : Kind) (v w : UnreadLine) (values : Values) → ReadsValues k v values w → IsKindOf k values
 fits table.several v w (at_most_one value) reads = reads
-fits table.several v w (all values) reads = tt
-fits table.flag v w values reads = tt
-fits table.one v w values reads = tt
-fits table.optional v w values reads = tt
+fits k v w values reads = tt
 
 -- one more option
 pub has_option : (d : Declaration) (s u v w : UnreadLine) (words : List (List ℕ)) (accepted own : Bool) (last : Option (ℕ × List ℕ)) (going : Option ℕ) (value : Option (List ℕ)) (goes_on : Bool) (name : Name) (index : ℕ)
@@ -221,7 +202,7 @@ has_option d s u v w words accepted own last going value goes_on name index soun
   record {
     l = has.l ++ parsed ∷ [];
     at = reached_by d s u w has.l going name index k values (pending v) goes_on has.at found (grows (declared.table d.options) u v w name k values has.at.upto.line kind_so next reads) line within (fits k v w values reads) goes_is;
-    words_are = words_append has.l (parsed ∷ []) ∙ ap (λ ws. positional_words has.l ++ ws) (no_words index values) ∙ append_none (positional_words has.l) ∙ has.words_are;
+    words_are = words_append has.l (parsed ∷ []) ∙ ap (λ ws. positional_words has.l ++ ws) (no_words index values) ∙ append-nil (positional_words has.l) ∙ has.words_are;
     accepted_is = accepted_more d.options has.l parsed ∙ ap (λ b. b && is_none (refused_value d.options parsed)) has.accepted_is ∙ ap (λ b. accepted && b) own_is;
     last_is = read_last has.l index parsed value (option_with index values) value_is;
   },
@@ -244,11 +225,6 @@ has_option d s u v w words accepted own last going value goes_on name index soun
     within : IsWithin (positional_count (has.l ++ parsed ∷ [])) (most d.positionals)
     within = same_within has.l parsed (most d.positionals) (no_count index values) has.at.upto.within
 
--- the same, as calls return it
-pub same_reached : (d : Declaration) (s u : UnreadLine) (words : List (List ℕ)) (a b : Bool) (l k : Option (ℕ × List ℕ)) (g h : Option ℕ) → a ≡ b → l ≡ k → g ≡ h → HasReached d s u words b k h → HasReached d s u words a l g
-same_reached d s u words a b l k g h a_is l_is g_is has =
-    subst (λ (x : Bool). HasReached d s u words x l g) (sym a_is) (subst (λ (x : Option (ℕ × List ℕ)). HasReached d s u words b x g) (sym l_is) (subst (λ (x : Option ℕ). HasReached d s u words b k x) (sym g_is) has))
-
 -- ---- the option itself
 
 pub option_at : {F V M S : Type 0} (options os : List (rust.Declared F V M S)) (o : rust.Declared F V M S) (name : Name) (index : ℕ) → os ≡ options → index_of (map option_view options) name ≡ Some index → o ≡ get_or os index o
@@ -260,10 +236,6 @@ pub option_there : {F V M S : Type 0} (options os : List (rust.Declared F V M S)
 option_there options os o name index same found is = view_there options index o (option_at options os o name index same found is)
 
 -- ---- where the reading ends
-
-pub starts : {d : Declaration} {s u : UnreadLine} {words own : List (List ℕ)} {accepted : Bool} {last : Option (ℕ × List ℕ)} {going : Option ℕ} → s ≡ start d.short_equals words → HasReached d s u own accepted last going
-    → HasReached d (start d.short_equals words) u own accepted last going
-starts {d} {s} {u} {words} {own} {accepted} {last} {going} is has = subst (λ x. HasReached d x u own accepted last going) is has
 
 -- what words mean is what was read of them
 means_read : (d : Declaration) (words : List (List ℕ)) (l : List Parsed) (state : spec.State) → Leaves d words l state → (m : List Parsed) → MeansFront d words m → m ≡ l
@@ -326,9 +298,7 @@ front_lacking d u v w words front last going name index sound has no_last next f
   where
     no_front_first : {l : List Parsed} → Leaves d words l (spec.first i) → (m : List Parsed) → MeansFront d words m → ⊥
     no_front_first (leaves_first j none more nor) m means = none m means
-front_lacking d u v w words front last going name index sound has no_last next found state.Anything state_is lacks = absurd lacks
-front_lacking d u v w words front last going name index sound has no_last next found (state.Further i) state_is lacks = absurd lacks
-front_lacking d u v w words front last going name index sound has no_last next found state.Ended state_is lacks = absurd lacks
+front_lacking d u v w words front last going name index sound has no_last next found other state_is lacks = absurd lacks
 
 -- ---- what can come after words that mean this
 
@@ -358,13 +328,6 @@ front_comes d words front b is holds = (
       holds.1
       (opens, sym is.accepted_is ∙ sym (ap (are_accepted d.options) same) ∙ there.2, subst (CanBeTaken d.positionals) (ap positional_words same ∙ is.words_are) there.3)),
 )
-
--- the same for the positionals and words that calls return
-pub taken_here : (ps qs : List declared.Positional) (words own : List (List ℕ)) (b opens accepted : Bool) → opens ≡ true → accepted ≡ true → qs ≡ ps → own ≡ words → (IsTrue b ↔ CanBeTaken qs own)
-    → IsTrue b ↔ ((opens ≡ true) × (accepted ≡ true) × CanBeTaken ps words)
-taken_here ps qs words own b opens accepted opens_so accepted_so same own_is is =
-    let both = subst (λ (ws : List (List ℕ)). IsTrue b ↔ CanBeTaken ps ws) own_is (subst (λ (xs : List declared.Positional). IsTrue b ↔ CanBeTaken xs own) same is) in
-    ((λ yes. (opens_so, accepted_so, both.0 yes)), (λ all. both.1 all.2))
 
 pub nowhere_comes : (d : Declaration) (words : List (List ℕ)) → LeadsNowhere d words → CanCome d words false
 nowhere_comes d words none = ((λ yes. absurd (false≢true yes)), (λ there. absurd (nowhere_open d words none there.0 there.1)))

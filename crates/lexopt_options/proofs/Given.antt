@@ -1,15 +1,9 @@
 -- The keys that are given to positionals.
-use Rattle.std.proofs.Common.{below_more, length-append, set, if◌then◌else◌, take-append-drop, ◌≡◌, ◌≤◌, ◌<◌, ◌+◌, ℕ, suc, Bool, true, false, List, [], ◌∷◌, length, take, drop, map, get_or, filter, Option, Some, slice_get, refl, sym, ap, subst, ◌∙◌, arith}
-use Rattle.std.specs.List.{AllZip}
-use Rattle.std.proofs.lemmas.List.{drop_all, get_or_default, get_or-set_other, get_or-set_same, take_more}
-use Rattle.lexopt_options_spec.specs.Legal.{IsWithin, most}
-use Rattle.lexopt_options_spec.proofs.Shares.{some_places}
+use Rattle.lexopt_options.proofs.Common.{below_more, length-append, set, if◌then◌else◌, take-append-drop, ◌≡◌, ◌≤◌, ◌<◌, ◌+◌, ℕ, suc, Bool, true, false, List, [], ◌∷◌, length, take, drop, map, get_or}
+use Rattle.lexopt_options.proofs.Common.{filter, Option, Some, slice_get, refl, sym, ap, subst, ◌∙◌, arith, AllZip, drop_all, get_or_default, get_or-set_other, get_or-set_same, take_more, IsWithin}
+use Rattle.lexopt_options.proofs.Common.{most, some_places, ArePlaces, positional_view, Declared, Positional}
 use Rattle.lexopt_options.proofs.ReadKeys.{keys_append}
 use Rattle.lexopt_options_spec.specs.Legal as legal
-use Rattle.lexopt_options_spec.specs.Places.{ArePlaces}
-use Rattle.lexopt_declaration.specs.Models.{positional_view}
-use Rattle.lexopt_declaration.specs.declared.declaration.Declared.{Declared}
-use Rattle.lexopt_declaration.specs.declared.declaration.Positional.{Positional}
 use Rattle.lexopt_options.specs.declared.parsed.Parsed.{Parsed}
 use Rattle.lexopt_options.specs.declared.parsed.Parsed.TheVariants as parsed
 use Rattle.lexopt_options.specs.Keys.{AreParsedAs, HasKey, HaveKeys, IsGiven, IsParsedAs, IsSame, is_positional, positional_keys}
@@ -20,11 +14,8 @@ word_count xs = length (positional_keys xs)
 
 pub counted : {F V P M S : Type 0} (xs : List (Parsed F V P M S)) → length (filter (λ x. is_positional x) xs) ≡ word_count xs
 counted [] = refl
-counted (parsed.Flag key ∷ xs) = counted xs
-counted (parsed.Value key word ∷ xs) = counted xs
-counted (parsed.Maybe key value ∷ xs) = counted xs
-counted (parsed.Values key values ∷ xs) = counted xs
 counted (parsed.Positional key word ∷ xs) = ap suc (counted xs)
+counted (x ∷ xs) = counted xs
 
 -- the key that is found for a positional
 pub given_one : {F V P M S : Type 0} (positionals : List (Positional P)) (places : List ℕ) (n : ℕ) (own : Parsed F V P M S) (old other : P) (word : _) (found : Option P) → own ≡ parsed.Positional old word → found ≡ Some other
@@ -46,22 +37,18 @@ EachGives positionals count n (x ∷ xs) (y ∷ ys) = Gives positionals count n 
 EachGives positionals count n xs ys = ⊥
 
 parsed_so : {F V P M S : Type 0} (options : List (Declared F V M S)) (s : legal.Parsed) (x y : Parsed F V P M S) → IsSame x y → IsParsedAs options s x → IsParsedAs options s y
-parsed_so options s (parsed.Flag key) y same is = subst (IsParsedAs options s) (sym same) is
-parsed_so options s (parsed.Value key word) y same is = subst (IsParsedAs options s) (sym same) is
-parsed_so options s (parsed.Maybe key value) y same is = subst (IsParsedAs options s) (sym same) is
-parsed_so options s (parsed.Values key values) y same is = subst (IsParsedAs options s) (sym same) is
 parsed_so options s (parsed.Positional key word) y same is = subst (IsParsedAs options s) (sym same.1) is
+parsed_so options s x y same is = subst (IsParsedAs options s) (sym same) is
 
 -- what was read is still the same
 pub parsed_still : {F V P M S : Type 0} (positionals : List (Positional P)) (count n : ℕ) (options : List (Declared F V M S)) (l : List legal.Parsed) (xs ys : List (Parsed F V P M S)) → EachGives positionals count n xs ys
     → AreParsedAs options l xs → AreParsedAs options l ys
 parsed_still positionals count n options [] [] [] each are = tt
-parsed_still positionals count n options [] [] (y ∷ ys) each are = absurd each
-parsed_still positionals count n options [] (x ∷ xs) ys each are = absurd are
-parsed_still positionals count n options (s ∷ l) [] ys each are = absurd are
-parsed_still positionals count n options (s ∷ l) (x ∷ xs) [] each are = absurd each
 parsed_still positionals count n options (s ∷ l) (x ∷ xs) (y ∷ ys) each are =
     (parsed_so options s x y each.0.0 are.0, parsed_still positionals count (word_count (x ∷ []) + n) options l xs ys each.1 are.1)
+parsed_still positionals count n options l [] (y ∷ ys) each are = absurd each
+parsed_still positionals count n options l (x ∷ xs) [] each are = absurd each
+parsed_still positionals count n options l xs ys each are = absurd are
 
 word_cons : {F V P M S : Type 0} (x : Parsed F V P M S) (xs : List (Parsed F V P M S)) → word_count (x ∷ xs) ≡ word_count (x ∷ []) + word_count xs
 word_cons x xs = ap length (keys_append (x ∷ []) xs) ∙ length-append (positional_keys (x ∷ [])) (positional_keys xs)
@@ -69,20 +56,17 @@ word_cons x xs = ap length (keys_append (x ∷ []) xs) ∙ length-append (positi
 each_gives : {F V P M S : Type 0} (positionals : List (Positional P)) (count n : ℕ) (xs ys : List (Parsed F V P M S)) → length ys ≡ length xs
     → ((i : ℕ) (d : Parsed F V P M S) → i < length xs → Gives positionals count (word_count (take i xs) + n) (get_or xs i d) (get_or ys i d)) → EachGives positionals count n xs ys
 each_gives positionals count n [] [] same at = tt
-each_gives positionals count n [] (y ∷ ys) same at = absurd (omega (arith, same))
-each_gives positionals count n (x ∷ xs) [] same at = absurd (omega (arith, same))
 each_gives positionals count n (x ∷ xs) (y ∷ ys) same at = (
   subst (λ k. Gives positionals count k x y) (omega arith) (at 0 x (omega arith)),
   each_gives positionals count (word_count (x ∷ []) + n) xs ys (omega (arith, same))
       (λ i d below. subst (λ k. Gives positionals count k (get_or xs i d) (get_or ys i d)) (let e = word_cons x (take i xs) in omega (arith, e)) (at (suc i) d (omega (arith, below)))),
 )
+each_gives positionals count n xs ys same at = absurd (omega (arith, same))
 
 -- the keys that were given, from the word at this index on
 given_keys : {F V P M S : Type 0} (positionals : List (Positional P)) (count : ℕ) (places : List ℕ) (n : ℕ) (xs ys : List (Parsed F V P M S)) → ArePlaces (map positional_view positionals) count places → EachGives positionals count n xs ys → word_count xs + n ≡ length places
     → AllZip (HasKey positionals) (drop n places) (positional_keys ys)
 given_keys positionals count places n [] [] are given all = subst (λ l. AllZip (HasKey positionals) l []) (sym (drop_all n places (omega (arith, all)))) tt
-given_keys positionals count places n [] (y ∷ ys) are given all = absurd given
-given_keys positionals count places n (x ∷ xs) [] are given all = absurd given
 given_keys positionals count places n (x ∷ xs) (y ∷ ys) are given all =
     one x (given.0.1 places are) (given_keys positionals count places (word_count (x ∷ []) + n) xs ys are given.1 (let e = word_cons x xs in omega (arith, e, all)))
   where
@@ -91,30 +75,24 @@ given_keys positionals count places n (x ∷ xs) (y ∷ ys) are given all =
 
     one : (x : Parsed _ _ _ _ _) → IsGiven positionals places n x y → AllZip (HasKey positionals) (drop (word_count (x ∷ []) + n) places) (positional_keys ys)
         → AllZip (HasKey positionals) (drop n places) (positional_keys (y ∷ ys))
-    one (parsed.Flag key) is rest = subst (AllZip (HasKey positionals) (drop n places)) (keys_of (parsed.Flag key) is) (subst (λ m. AllZip (HasKey positionals) (drop m places) (positional_keys ys)) (omega arith) rest)
-    one (parsed.Value key word) is rest = subst (AllZip (HasKey positionals) (drop n places)) (keys_of (parsed.Value key word) is) (subst (λ m. AllZip (HasKey positionals) (drop m places) (positional_keys ys)) (omega arith) rest)
-    one (parsed.Maybe key value) is rest = subst (AllZip (HasKey positionals) (drop n places)) (keys_of (parsed.Maybe key value) is) (subst (λ m. AllZip (HasKey positionals) (drop m places) (positional_keys ys)) (omega arith) rest)
-    one (parsed.Values key values) is rest = subst (AllZip (HasKey positionals) (drop n places)) (keys_of (parsed.Values key values) is) (subst (λ m. AllZip (HasKey positionals) (drop m places) (positional_keys ys)) (omega arith) rest)
     one (parsed.Positional key word) (k, i, is, at, has) rest =
         subst (AllZip (HasKey positionals) (drop n places)) (keys_of (parsed.Positional k word) is)
         (subst (λ l. AllZip (HasKey positionals) l (k ∷ positional_keys ys)) (sym (places_some places n i at ∙ ap (λ m. i ∷ drop m places) (omega arith))) (has, rest))
+    one x is rest = subst (AllZip (HasKey positionals) (drop n places)) (keys_of x is) (subst (λ m. AllZip (HasKey positionals) (drop m places) (positional_keys ys)) (omega arith) rest)
+given_keys positionals count places n xs ys are given all = absurd given
 
 -- there are as many positionals as before
 same_count : {F V P M S : Type 0} (positionals : List (Positional P)) (count n : ℕ) (xs ys : List (Parsed F V P M S)) → EachGives positionals count n xs ys → word_count ys ≡ word_count xs
 same_count positionals count n [] [] same = refl
-same_count positionals count n [] (y ∷ ys) same = absurd same
-same_count positionals count n (x ∷ xs) [] same = absurd same
 same_count positionals count n (x ∷ xs) (y ∷ ys) same = one x same.0.0 (same_count positionals count (word_count (x ∷ []) + n) xs ys same.1)
   where
     keys_of : (k : Parsed _ _ _ _ _) → y ≡ k → word_count (y ∷ ys) ≡ word_count (k ∷ ys)
     keys_of k is = ap (λ z. word_count (z ∷ ys)) is
 
     one : (x : Parsed _ _ _ _ _) → IsSame x y → word_count ys ≡ word_count xs → word_count (y ∷ ys) ≡ word_count (x ∷ xs)
-    one (parsed.Flag key) is rest = keys_of (parsed.Flag key) is ∙ rest
-    one (parsed.Value key word) is rest = keys_of (parsed.Value key word) is ∙ rest
-    one (parsed.Maybe key value) is rest = keys_of (parsed.Maybe key value) is ∙ rest
-    one (parsed.Values key values) is rest = keys_of (parsed.Values key values) is ∙ rest
     one (parsed.Positional key word) (k, is) rest = keys_of (parsed.Positional k word) is ∙ ap suc rest
+    one x is rest = keys_of x is ∙ rest
+same_count positionals count n xs ys same = absurd same
 
 -- ---- one after another
 

@@ -24,7 +24,7 @@ use Rattle.lexopt_options.specs.Keys.{AreParsedAs, HasKind, IsParsedAs, IsByKey}
 
 -- ---- the option at an index
 
-has_kind : {F V M S : Type 0} (options : List (Declared F V M S)) (i : ℕ) (o : Declared F V M S) (k : Kind F V M S) → slice_get options i ≡ Some o → o.kind ≡ k → HasKind options i k
+pub has_kind : {F V M S : Type 0} (options : List (Declared F V M S)) (i : ℕ) (o : Declared F V M S) (k : Kind F V M S) → slice_get options i ≡ Some o → o.kind ≡ k → HasKind options i k
 has_kind options i o k at k_is = ap (option_map (λ p. p.kind)) at ∙ ap (λ x. Some x) k_is
 
 kinds_are : {F V M S : Type 0} (o : Option (Declared F V M S)) (k : Kind F V M S) → option_map (λ p. p.kind) o ≡ Some k
@@ -62,6 +62,10 @@ tells_values own i o key p words at is = let has = has_kind (options_of own) i o
 pub tells_help : {F V P M S : Type 0} (own : Options F V P M S) (i : ℕ) (o : Declared F V M S) → slice_get (options_of own) i ≡ Some o → o.kind ≡ kind.Help
     → IsByKey {P = P} (options_of own) (legal.option i None) (told.Asked asked.Help)
 tells_help own i o at is = asked_is (options_of own) i kind.Help (has_kind (options_of own) i o kind.Help at is)
+
+pub tells_brief_help : {F V P M S : Type 0} (own : Options F V P M S) (i : ℕ) (o : Declared F V M S) → slice_get (options_of own) i ≡ Some o → o.kind ≡ kind.BriefHelp
+    → IsByKey {P = P} (options_of own) (legal.option i None) (told.Asked asked.BriefHelp)
+tells_brief_help own i o at is = asked_is (options_of own) i kind.BriefHelp (has_kind (options_of own) i o kind.BriefHelp at is)
 
 pub tells_version : {F V P M S : Type 0} (own : Options F V P M S) (i : ℕ) (o : Declared F V M S) (text : _) → slice_get (options_of own) i ≡ Some o → o.kind ≡ kind.Version text
     → IsByKey {P = P} (options_of own) (legal.option i None) (told.Asked (asked.Version text))

@@ -1,3 +1,4 @@
+pub mod Common
 pub mod NoValue
 pub mod ReadNext
 pub mod Keys
@@ -15,3 +16,4 @@ pub mod Given
 pub mod KeysGiven
 pub mod Looked
 pub mod RestRead
+pub mod Defaults

@@ -1,16 +1,8 @@
 -- Which positional each word of a line belongs to, word by word.
-use Rattle.std.proofs.Common.{◌≡◌, ◌≤◌, ◌<◌, ◌+◌, ◌-◌, ℕ, zero, suc, List, [], ◌∷◌, ◌++◌, length, drop, map, get_or, replicate, Some, None, slice_get, refl, sym, ap, subst, ◌∙◌, arith}
-use Rattle.std.specs.List.{AllZip}
-use Rattle.std.specs.Option.{option_map}
-use Rattle.std.proofs.lemmas.List.{drop_all, drop_more, get_or-map, length-map, length-take-le}
-use Rattle.std.proofs.lemmas.Option.{get_or_from_slice_get, slice_get-get_or, slice_get_within}
+use Rattle.lexopt_options.proofs.Common.{◌≡◌, ◌≤◌, ◌<◌, ◌+◌, ◌-◌, ℕ, zero, suc, List, [], ◌∷◌, ◌++◌, length, drop, map, get_or, replicate, Some, None, slice_get, refl, sym, ap, subst, ◌∙◌, arith}
+use Rattle.lexopt_options.proofs.Common.{AllZip, option_map, drop_all, drop_more, get_or-map, length-map, length-take-le, get_or_from_slice_get, slice_get-get_or, slice_get_within, IsWithin, most}
+use Rattle.lexopt_options.proofs.Common.{ArePlaces, extra, greedy, least, needs, owners, places_are, some_places, owners_length, slice_get_take, positional_view, Positional}
 use Rattle.lexopt_options_spec.specs.Declaration as spec
-use Rattle.lexopt_options_spec.specs.Legal.{IsWithin, most}
-use Rattle.lexopt_options_spec.specs.Places.{ArePlaces, extra, greedy, least, needs, owners}
-use Rattle.lexopt_options_spec.proofs.Shares.{places_are, some_places}
-use Rattle.lexopt_options_spec.proofs.Taken.{owners_length, slice_get_take}
-use Rattle.lexopt_declaration.specs.Models.{positional_view}
-use Rattle.lexopt_declaration.specs.declared.declaration.Positional.{Positional}
 use Rattle.lexopt_options.specs.Keys.{AllFirst, HasKey}
 
 -- ---- the word at an index
@@ -120,10 +112,9 @@ places_zero ps count places few are i x is =
 zip_first : {P : Type 0} (positionals : List (Positional P)) (places : List ℕ) (keys : List P) → ((i x : ℕ) → slice_get places i ≡ Some x → x ≡ 0) → AllFirst positionals keys → length places ≡ length keys
     → AllZip (HasKey positionals) places keys
 zip_first positionals [] [] zero_all first same = tt
-zip_first positionals [] (k ∷ keys) zero_all first same = absurd (omega (arith, same))
-zip_first positionals (x ∷ places) [] zero_all first same = absurd (omega (arith, same))
 zip_first positionals (x ∷ places) (k ∷ keys) zero_all first same =
     (subst (λ n. HasKey positionals n k) (sym (zero_all 0 x refl)) first.0, zip_first positionals places keys (λ i. zero_all (suc i)) first.1 (omega (arith, same)))
+zip_first positionals places keys zero_all first same = absurd (omega (arith, same))
 
 -- if there are fewer than two positionals, each word belongs to the first
 pub first_keys : {P : Type 0} (positionals : List (Positional P)) (keys : List P) → length positionals < 2 → IsWithin (length keys) (most (map positional_view positionals)) → AllFirst positionals keys

@@ -12,7 +12,7 @@ use Rattle.lexopt_options_spec.specs.Legal as legal
 use Rattle.lexopt_options_spec.proofs.Listed.{accepted_append}
 use Rattle.lexopt_options_spec.proofs.Fronts.{nothing_read}
 use Rattle.lexopt_options_spec.proofs.PastSeparator.{option_open}
-use Rattle.lexopt_options_spec.specs.Legal.{IsWithin, are_accepted, counts, is_required, most, occurs, parsed_item, positional_count, refused_value}
+use Rattle.lexopt_options_spec.specs.Legal.{IsWithin, are_accepted, counts, most, occurs, parsed_item, positional_count, refused_value}
 use Rattle.lexopt_options_spec.specs.Stops.{IsOfOption, Stops}
 use Rattle.lexopt_declaration.specs.declared.declaration.Declared.{Declared}
 use Rattle.lexopt_line_spec.specs.Readings.{option_reply, start}
@@ -31,7 +31,7 @@ use Rattle.lexopt_options.specs.Keys.{AllFirst, AreParsedAs, HasKey, IsParsedAs,
 use Rattle.lexopt_options_spec.specs.Stops as stops
 use Rattle.lexopt_options.specs.declared.mistake.Mistake.{Mistake}
 use Rattle.lexopt_options.specs.Mistakes.{IsMistake}
-use Rattle.lexopt_options.specs.Reading.{HasRead, HasStopped, StopsAtOption, AreSeen, IsReadByKey, ReadsParsed, noted, parsed_with}
+use Rattle.lexopt_options.specs.Reading.{HasRead, HasStopped, StopsAtOption, AreSeen, IsReadByKey, ReadsParsed, is_noted_at, noted, parsed_with}
 use Rattle.lexopt_options.specs.declared.parsed.Parsed.TheVariants as variant
 use Rattle.lexopt_declaration.specs.declared.declaration.Positional.{Positional}
 use Rattle.lexopt_options_spec.specs.Completion.{IsOption}
@@ -70,15 +70,15 @@ has_last i [] x = or-false (x == i)
 has_last i (y ∷ l) x = elim (y == i) as (λ b. (b || has i (l ++ x ∷ [])) ≡ ((b || has i l) || (x == i))) [ true ↦ refl | false ↦ has_last i l x ]
 
 pub seen_more : (options : List spec.Declared) (l : List legal.Parsed) (seen : List ℕ) (index : ℕ) (s : legal.Parsed) → IsOption index s → AreSeen options l seen
-    → AreSeen options (l ++ s ∷ []) (noted (is_required options index) index seen)
-seen_more options l seen index s is are = λ i needed. at (is_required options index) refl i needed
+    → AreSeen options (l ++ s ∷ []) (noted (is_noted_at options index) index seen)
+seen_more options l seen index s is are = λ i needed. at (is_noted_at options index) refl i needed
   where
-    at : (b : Bool) → is_required options index ≡ b → (i : ℕ) → is_required options i ≡ true → has i (noted b index seen) ≡ occurs i (l ++ s ∷ [])
+    at : (b : Bool) → is_noted_at options index ≡ b → (i : ℕ) → is_noted_at options i ≡ true → has i (noted b index seen) ≡ occurs i (l ++ s ∷ [])
     at true so i needed = has_last i seen index ∙ ap (λ b. b || (index == i)) (are i needed) ∙ sym (occurs_last i l s ∙ ap (λ b. occurs i l || b) (is_option_so i index s is))
     at false so i needed = are i needed ∙ sym (or-false (occurs i l)) ∙ ap (λ b. occurs i l || b) (sym other) ∙ sym (occurs_last i l s ∙ ap (λ b. occurs i l || b) (is_option_so i index s is))
       where
         differ : (b : Bool) → (index == i) ≡ b → b ≡ false
-        differ true same = absurd (false≢true (sym so ∙ ap (is_required options) (eqb-true index i same) ∙ needed))
+        differ true same = absurd (false≢true (sym so ∙ ap (is_noted_at options) (eqb-true index i same) ∙ needed))
         differ false same = refl
 
         other : (index == i) ≡ false
@@ -135,7 +135,7 @@ before_separator d count v w s line reads none = option_open (table d.options) v
 
 pub has_option : {F V P M S : Type 0} (o : Options F V P M S) (begins : RestStart) (u v w : UnreadLine) (count index : ℕ) (seen seen_now : List ℕ) (parsed more : List (Parsed F V P M S)) (s : legal.Parsed) (own : Parsed F V P M S)
     → HasRead o begins u v count seen parsed → ReadsParsed (declaration_of o) count v s w → asked_by (declaration_of o).options s ≡ None → IsParsedAs (options_of o) s own → counts s ≡ 0 → IsOption index s → refused_value (declaration_of o).options s ≡ None
-    → seen_now ≡ noted (is_required (declaration_of o).options index) index seen → more ≡ parsed ++ own ∷ [] → HasRead o begins u w count seen_now more
+    → seen_now ≡ noted (is_noted_at (declaration_of o).options index) index seen → more ≡ parsed ++ own ∷ [] → HasRead o begins u w count seen_now more
 has_option o begins u v w count index seen seen_now parsed more s own had reads none is counts_is option unrefused seen_is more_is = record {
   l = had.l ++ s ∷ [];
   read = one_more (declaration_of o) u v w had.l count s had.read had.counted reads;

@@ -1,43 +1,30 @@
 -- One step of reading a line.
-use Rattle.std.proofs.Common.{◌≡◌, ◌≢◌, ◌≤◌, ℕ, ◌+◌, List, [], ◌∷◌, ◌++◌, length, Option, Some, None, refl, sym, ap, subst, ◌∙◌, arith}
-use Rattle.std.specs.Option.{option_map}
-use Rattle.lexopt_spec.specs.UnreadLine.{UnreadLine, IsLine}
+use Rattle.lexopt_options.proofs.Common.{◌≡◌, ◌≢◌, ◌≤◌, ℕ, ◌+◌, List, [], ◌∷◌, ◌++◌, length, Option, Some, None, refl, sym, ap, subst, ◌∙◌, arith, option_map, UnreadLine, IsLine, Next, NextStep}
+use Rattle.lexopt_options.proofs.Common.{OptionalStep, optional_pending, optional_none, ReadsPositional, no_word_left, word_left, ReadsWord, no_word, reads_separator, reads_long, reads_cluster}
+use Rattle.lexopt_options.proofs.Common.{reads_positional, joined_value, equals_value, next_in_cluster, after_separator, next_word, Kind, Name, kind, Values, at_most_one, all, ReadsValues, item_with}
+use Rattle.lexopt_options.proofs.Common.{ReadsFirst, first_positional, first_flag, first_one, first_optional, first_several, option_reply, encode_utf8, get_or, false, true, MatchOption, unwrap_or}
+use Rattle.lexopt_options.proofs.Common.{slice_get-get_or, Contains-get_or, Err, IfOk, Ok, Result, LastOption, no_option, short_option, long_option, Tail, rest, pending, pending_in, rest_of}
+use Rattle.lexopt_options.proofs.Common.{refusal_reply, inl, inr, String, Global, string_bytes, IsWithin, counts, most, positional_count, parsed_item, count_append, joined, same_within, ReadsUpTo}
+use Rattle.lexopt_options.proofs.Common.{Stops, not_declared, unknown_option}
 use Rattle.lexopt_spec.specs.Steps as steps
-use Rattle.lexopt_spec.specs.Steps.{Next, NextStep, OptionalStep, optional_pending, optional_none, ReadsPositional, no_word_left, word_left, ReadsWord, no_word, reads_separator, reads_long, reads_cluster, reads_positional, joined_value, equals_value, next_in_cluster, after_separator, next_word}
 use Rattle.lexopt_spec.specs.Runs as calls
 use Rattle.lexopt_line_spec.specs.Table as spec
-use Rattle.lexopt_line_spec.specs.Table.{Kind, Name, kind}
-use Rattle.lexopt_line_spec.specs.Values.{Values, at_most_one, all, ReadsValues, item_with}
 use Rattle.lexopt_line_spec.proofs.Bounds.{positional_falls, values_fall}
-use Rattle.lexopt_line_spec.specs.Readings.{ReadsFirst, first_positional, first_flag, first_one, first_optional, first_several, option_reply}
 use Rattle.lexopt_line_spec.proofs.ItemsRead.{one_more_item, option_given}
 use Rattle.lexopt_line_spec.proofs.RunAccounts.{step_line}
-use Rattle.std.proofs.Common.{encode_utf8, get_or, false, true}
-use Rattle.std.specs.Option.{MatchOption}
 use Rattle.lexopt_options_spec.specs.Nearest.{IsHint, IsHinted, ending, long_names}
-use Rattle.std.specs.Prelude.{unwrap_or}
-use Rattle.std.proofs.lemmas.Option.{slice_get-get_or}
 use Rattle.std.proofs.lemmas.List.Quantifiers.{position-Some}
-use Rattle.std.proofs.lemmas.List.Elements.{Contains-get_or}
 use Rattle.lexopt_options_spec.proofs.Tables.{kind_of_name}
 use Rattle.lexopt_options.specs.Kinds.{kind_at}
-use Rattle.std.specs.Prelude.{Err, IfOk, Ok, Result}
-use Rattle.lexopt_spec.specs.UnreadLine.{LastOption, no_option, short_option, long_option, Tail, rest, pending, pending_in, rest_of}
 use Rattle.lexopt_base.specs.Found.{found_as, advance_reply}
 use Rattle.lexopt_base.specs.declared.parser.Found.{Found}
 use Rattle.lexopt_base.specs.declared.parser.Found.TheVariants as found
 use Rattle.lexopt_base.specs.declared.refusal.Refusal.{Refusal}
 use Rattle.lexopt_base.specs.declared.refusal.Refusal.TheVariants as refused
-use Rattle.lexopt_base.specs.Refusals.{refusal_reply}
 use Rattle.lexopt_line_spec.proofs.ReplyKinds.{next_reply}
-use Rattle.std.proofs.Common.{inl, inr, String, Global, string_bytes}
 use Rattle.lexopt_base.specs.Replies.{RepliesWith}
 use Rattle.lexopt_options_spec.specs.Declaration.{Declaration, Declared, Positional, has_name, index_of, is_sound, table}
 use Rattle.lexopt_options_spec.specs.Legal as legal
-use Rattle.lexopt_options_spec.specs.Legal.{IsWithin, counts, most, positional_count, parsed_item}
-use Rattle.lexopt_options_spec.proofs.Lists.{count_append, joined}
-use Rattle.lexopt_options_spec.proofs.Taken.{same_within}
-use Rattle.lexopt_options_spec.specs.Stops.{ReadsUpTo, Stops, not_declared, unknown_option}
 use Rattle.lexopt_options.specs.declared.mistake.Mistake.{Mistake}
 use Rattle.lexopt_options.specs.Mistakes.{IsMistake}
 use Rattle.lexopt_options.specs.Reading.{ReadsParsed, StopsAtOption, UndeclaredNext, parsed_with}
@@ -112,16 +99,13 @@ short_rest u v c step = in_step u v (steps.short c) refl (option_given u v (spec
     in_step u v r is (after_separator tail ended reads) = absurd (in_positional u v r is reads)
     in_step u v r is (next_word tail ended reads) = in_word u v r is reads
 
+given_is : (given other : Option (List ℕ)) → steps.maybe given ≡ steps.maybe other → given ≡ other
+given_is given other is = cc
+
 -- what is taken, where `=` is a character of the cluster
 taken_bytes : (u w : UnreadLine) (given : Option (List ℕ)) → OptionalStep u (steps.maybe given) w → option_map (λ found. found.0) (pending u) ≡ given
-taken_bytes u w given (optional_pending value by_equals is reply after) = ap (option_map (λ found. found.0)) is ∙ sym (given_is (Some value) reply)
-  where
-    given_is : (other : Option (List ℕ)) → steps.maybe given ≡ steps.maybe other → given ≡ other
-    given_is other is = cc
-taken_bytes u w given (optional_none is reply after) = ap (option_map (λ found. found.0)) is ∙ sym (given_is None reply)
-  where
-    given_is : (other : Option (List ℕ)) → steps.maybe given ≡ steps.maybe other → given ≡ other
-    given_is other is = cc
+taken_bytes u w given (optional_pending value by_equals is reply after) = ap (option_map (λ found. found.0)) is ∙ sym (given_is given (Some value) reply)
+taken_bytes u w given (optional_none is reply after) = ap (option_map (λ found. found.0)) is ∙ sym (given_is given None reply)
 
 rest_hint : (options : List Declared) (c : ℕ) (tail : Tail) (bytes : List ℕ) (given : Option (List ℕ)) (hints : List (List ℕ)) → tail ≡ rest_of bytes → option_map (λ found. found.0) (pending_in false tail) ≡ given
     → MatchOption given (hints ≡ []) (λ left. IsHint options (spec.short c) (rest left) hints) → IsHint options (spec.short c) tail hints

@@ -9,7 +9,7 @@ use Rattle.lexopt_options_spec.specs.Legal as legal
 use Rattle.lexopt_options_spec.specs.Legal.{Means, are_accepted, counts, most}
 use Rattle.lexopt_options_spec.specs.Rest as rests
 use Rattle.lexopt_options_spec.specs.Rest.{HaveNoRest, IsSplit, MeansBefore, before_rest, without_rest}
-use Rattle.lexopt_options_spec.proofs.OneRest.{ended_alone, front_begins, last_open, mistaken, one_rest, surplus_alone}
+use Rattle.lexopt_options_spec.proofs.OneRest.{ended_alone, front_begins, last_open, mistaken, none_alone, one_rest, surplus_alone}
 use Rattle.lexopt_options_spec.proofs.Rests.{Starts, front_read}
 use Rattle.lexopt_options_spec.proofs.States.{front_says, says_once}
 use Rattle.lexopt_options.specs.declared.options.Options.{Options}
@@ -112,7 +112,7 @@ early_of o words before word more l (line.Refused refused) split means (is, of_o
 
 pub rest_of : {F V P M S : Type 0} {begins : rests.RestStart} (o : Options F V P M S) (words others : List (List ℕ)) (read : Line F V P M S) → IsRestRead begins o words others read → (l : List legal.Parsed) (rest : List (List ℕ)) → MeansBefore begins (declaration_of o) words l rest
     → IsRestOf o l rest others read
-rest_of o words (word ∷ more) read (by_front before word2 more2 read2 split is) l [] (without_rest none means) = absurd (none before word2 more2 split)
+rest_of {begins = begins} o words (word ∷ more) read (by_front before word2 more2 read2 split is) l [] (without_rest alone means) = absurd (none_alone begins (declaration_of o) words l alone means.front before word2 more2 split)
 rest_of o words (word ∷ more) read (by_front before word2 more2 read2 split is) l (other ∷ others) (before_rest before3 word3 more3 split3 means) =
     let same = one_rest (declaration_of o) words before before3 word2 word3 more2 more3 split split3 in
     with_rest o l (word3 ∷ more3) (word2 ∷ more2) read2 (line_of o before read2 is l (subst (λ ws. Means (declaration_of o) ws l) (sym same.0) means)) same.1

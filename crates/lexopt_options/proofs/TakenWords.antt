@@ -1,25 +1,13 @@
 -- Which words the positionals of a line accept, word by word.
-use Rattle.std.proofs.Common.{Vec, Result, Ok, Err, IfOk, MatchOption, ◌≡◌, ◌==◌, is_none, ◌↔◌, ◌≤◌, ◌<◌, ◌+◌, ◌-◌, ℕ, zero, suc, Bool, true, false, List, [], ◌∷◌, length, take, drop, map, get_or, filter, Option, Some, None, slice_get, cond, refl, sym, ap, subst, ◌∙◌, ◌++◌, ⊎_elim, arith}
-use Rattle.std.specs.List.{Contains, list_any}
-use Rattle.std.proofs.lemmas.List.Elements.{Contains-append_cases, Contains-append_left, Contains-append_right}
-use Rattle.std.specs.Global.{Global}
-use Rattle.std.specs.Option.{option_eq}
-use Rattle.std.proofs.lemmas.Bool.{cases_lt, eq-eqb, eqb-true, false≢true, or_parts}
-use Rattle.std.proofs.lemmas.List.{drop_all, drop_more}
-use Rattle.std.proofs.lemmas.Option.{slice_get_cases}
-use Rattle.lexopt_options.specs.Declarations.{declaration_of}
+use Rattle.lexopt_options.proofs.Common.{Result, Ok, Err, IfOk, MatchOption, ◌≡◌, ◌==◌, ◌↔◌, ◌≤◌, ◌<◌, ◌+◌, ◌-◌, ℕ, zero, suc, Bool, true, false, List, [], ◌∷◌, length, take, drop, map, get_or}
+use Rattle.lexopt_options.proofs.Common.{filter, Option, Some, None, slice_get, cond, refl, sym, ap, subst, ◌∙◌, ◌++◌, ⊎_elim, arith, Contains, list_any, Contains-append_cases, Contains-append_left}
+use Rattle.lexopt_options.proofs.Common.{Contains-append_right, option_eq, cases_lt, eq-eqb, eqb-true, false≢true, or_parts, drop_all, drop_more, slice_get_cases, declaration_of, AreOwners}
+use Rattle.lexopt_options.proofs.Common.{CanBeTaken, CanOwn, IsAscending, IsWithin, most, positional_words, AreShares, AreTaken, ArePlaces, IsNotTaken, greedy, least, owners, refused_word, takes_at}
+use Rattle.lexopt_options.proofs.Common.{greedy_are_shares, places_are, some_places, places_spare, refused_take, slice_get_take, positional_view, words_view, Declared, Positional}
 use Rattle.lexopt_options.specs.declared.options.Options.{Options}
-use Rattle.lexopt_options_spec.specs.Completion.{AreOwners, CanBeTaken, CanOwn, IsAscending}
 use Rattle.lexopt_options_spec.specs.Declaration as spec
 use Rattle.lexopt_options_spec.specs.Legal as legal
-use Rattle.lexopt_options_spec.specs.Legal.{IsWithin, most, positional_words}
-use Rattle.lexopt_options_spec.specs.Places.{AreShares, AreTaken, ArePlaces, IsNotTaken, greedy, least, owners, refused_word, takes_at}
-use Rattle.lexopt_options_spec.proofs.Shares.{greedy_are_shares, places_are, some_places}
-use Rattle.lexopt_options_spec.proofs.Taken.{places_spare, refused_take, slice_get_take}
 use Rattle.lexopt_options.proofs.Owners.{owner_within, places_some}
-use Rattle.lexopt_declaration.specs.Models.{positional_view, words_view}
-use Rattle.lexopt_declaration.specs.declared.declaration.Declared.{Declared}
-use Rattle.lexopt_declaration.specs.declared.declaration.Positional.{Positional}
 use Rattle.lexopt_declaration.specs.declared.declaration.Words.{Words}
 use Rattle.lexopt_declaration.specs.declared.declaration.Words.TheVariants as words
 use Rattle.lexopt_options.specs.declared.parsed.Parsed.{Parsed}
@@ -155,25 +143,16 @@ pub parsed_no_word : {F V P M S : Type 0} (xs : List (Parsed F V P M S)) (k : �
 parsed_no_word {F} {V} {P} {M} {S} xs k x within is other = parsed_front xs k x within is ∙ go x other
   where
     go : (y : Parsed F V P M S) → ((key : P) (w : List ℕ) → y ≡ parsed.Positional key w → ⊥) → parsed_words (y ∷ drop (k + 1) xs) ≡ parsed_words (drop (k + 1) xs)
-    go (parsed.Flag key) other = refl
-    go (parsed.Value key word) other = refl
-    go (parsed.Maybe key value) other = refl
-    go (parsed.Values key values) other = refl
     go (parsed.Positional key word) other = absurd (other key word refl)
-
-pub parsed_past : {F V P M S : Type 0} (xs : List (Parsed F V P M S)) (k : ℕ) → length xs ≤ k → parsed_words (drop k xs) ≡ []
-parsed_past xs k past = ap parsed_words (drop_all k xs past)
+    go y other = refl
 
 -- the words of the positionals that were read
 pub words_are : {F V P M S : Type 0} (options : List (Declared F V M S)) (l : List legal.Parsed) (xs : List (Parsed F V P M S)) → AreParsedAs options l xs → positional_words l ≡ parsed_words xs
 words_are options [] [] are = refl
-words_are options [] (x ∷ xs) are = absurd are
-words_are options (s ∷ l) [] are = absurd are
 words_are options (s ∷ l) (parsed.Flag key ∷ xs) are = ap (λ t. positional_words (t ∷ l)) are.0.1 ∙ words_are options l xs are.1
-words_are options (s ∷ l) (parsed.Value key word ∷ xs) are = ap (λ t. positional_words (t ∷ l)) are.0.2 ∙ words_are options l xs are.1
-words_are options (s ∷ l) (parsed.Maybe key value ∷ xs) are = ap (λ t. positional_words (t ∷ l)) are.0.2 ∙ words_are options l xs are.1
-words_are options (s ∷ l) (parsed.Values key values ∷ xs) are = ap (λ t. positional_words (t ∷ l)) are.0.2 ∙ words_are options l xs are.1
 words_are options (s ∷ l) (parsed.Positional key word ∷ xs) are = ap (λ t. positional_words (t ∷ l)) are.0 ∙ ap (λ ws. word ∷ ws) (words_are options l xs are.1)
+words_are options (s ∷ l) (x ∷ xs) are = ap (λ t. positional_words (t ∷ l)) are.0.2 ∙ words_are options l xs are.1
+words_are options l xs are = absurd are
 
 -- ---- the words themselves
 
@@ -187,17 +166,14 @@ takes_any [] i w none = refl
 takes_any (p ∷ ps) zero w none = go p.words (or_parts (has_list p) (list_any (λ p. has_list p) ps) none).0
   where
     go : (ws : Words) → taken.is_list ws ≡ false → spec.accepts (words_view ws) w ≡ true
-    go words.Files is = refl
-    go words.Directories is = refl
-    go words.Text is = refl
     go (words.Listed values) is = absurd (false≢true (sym is))
+    go ws is = refl
 takes_any (p ∷ ps) (suc i) w none = takes_any ps i w (or_parts (has_list p) (list_any (λ p. has_list p) ps) none).1
 
 pub takes_all : {P : Type 0} (ps : List (Positional P)) (places : List ℕ) (ws : List (List ℕ)) → list_any (λ p. has_list p) ps ≡ false → refused_word (map positional_view ps) places ws ≡ None
-takes_all ps [] ws none = refl
-takes_all ps (i ∷ places) [] none = refl
 takes_all ps (i ∷ places) (w ∷ ws) none =
     ap (λ (b : Bool). cond b (refused_word (map positional_view ps) places ws) (Some (i, w))) (takes_any ps i w none) ∙ takes_all ps places ws none
+takes_all ps places ws none = refl
 
 pub all_taken : {P : Type 0} (ps : List (Positional P)) (ws : List (List ℕ)) → list_any (λ p. has_list p) ps ≡ false → IsWithin (length ws) (most (map positional_view ps)) → AreTaken (map positional_view ps) ws
 all_taken ps ws none within =
@@ -266,9 +242,6 @@ not_owner ps words n owners are none = record {
   in_order = are.in_order;
 }
 
-pub owners_are : (ps : List spec.Positional) (words : List (List ℕ)) (n : ℕ) (owners more : Vec ℕ Global) → owners ≡ more → OwnersUpTo ps words n owners.items → OwnersUpTo ps words n more.items
-owners_are ps words n owners more same are = subst (λ (v : Vec ℕ Global). OwnersUpTo ps words n v.items) same are
-
 -- a positional that a word can belong to is declared
 owned_within : (ps : List spec.Positional) (words : List (List ℕ)) (i : ℕ) → CanOwn ps words i → i < length ps
 owned_within ps words i can = let s = owned_fits ps words i can in let w = owner_within ps 0 s.0 (length words) i s.2.1 in omega (arith, w)
@@ -282,10 +255,6 @@ all_owners ps words n owners are past = record {
 
 -- ---- what the code computes
 
-pub is_nothing : (o : Option (ℕ × List ℕ)) → is_none o ≡ true → o ≡ None
-is_nothing None is = refl
-is_nothing (Some p) is = absurd (false≢true is)
-
 pub same_option : (o : Option ℕ) (i : ℕ) → option_eq ◌==◌ o (Some i) ≡ true → o ≡ Some i
 same_option None i is = absurd (false≢true is)
 same_option (Some j) i is = ap (λ n. Some n) (eqb-true j i is)
@@ -296,11 +265,8 @@ same_place (Some j) i is = let e : Some j ≡ Some i = is in let same : j ≡ i 
 
 pub parsed_counted : {F V P M S : Type 0} (xs : List (Parsed F V P M S)) → length (filter (λ x. keys.is_positional x) xs) ≡ length (parsed_words xs)
 parsed_counted [] = refl
-parsed_counted (parsed.Flag key ∷ xs) = parsed_counted xs
-parsed_counted (parsed.Value key word ∷ xs) = parsed_counted xs
-parsed_counted (parsed.Maybe key value ∷ xs) = parsed_counted xs
-parsed_counted (parsed.Values key values ∷ xs) = parsed_counted xs
 parsed_counted (parsed.Positional key word ∷ xs) = ap suc (parsed_counted xs)
+parsed_counted (x ∷ xs) = parsed_counted xs
 
 -- what is found for the words of a line
 pub invalid_line : {F V P M S : Type 0} (o : Options F V P M S) (ps : List (Positional P)) (ws : List (List ℕ)) (spare : ℕ) (r : Result (Option Mistake) AllocError) → map positional_view ps ≡ (declaration_of o).positionals

@@ -1,6 +1,7 @@
 -- What the reading of a whole line means.
 use Rattle.std.proofs.Common.{append-nil, append_assoc, ◌≡◌, ◌≤◌, ◌<◌, ◌-◌, ℕ, suc, length, take, arith, true, false, List, [], ◌∷◌, ◌++◌, refl, sym, ap, subst, ◌∙◌}
 use Rattle.std.specs.List.{list_any}
+use Rattle.std.specs.Option.{is_some}
 use Rattle.std.proofs.lemmas.Bool.{false≢true}
 use Rattle.lexopt_spec.specs.UnreadLine.{UnreadLine}
 use Rattle.lexopt_spec.specs.Steps as steps
@@ -35,6 +36,7 @@ use Rattle.lexopt_options.specs.Lines.{IsLineOf, IsLineRead, LineMeans}
 use Rattle.lexopt_options.specs.Mistakes.{AreNames, IsMistake}
 use Rattle.lexopt_options.specs.Reading.{AreSeen, IsFirstUnseen, IsRight, IsWrong}
 use Rattle.lexopt_options.specs.Taken.{has_list}
+use Rattle.lexopt_options.proofs.Defaults.{as_read, required_noted}
 use Rattle.lexopt_options.proofs.Seen.{none_required}
 use Rattle.lexopt_options.proofs.TakenWords.{all_taken}
 
@@ -55,15 +57,16 @@ pub line_parsed : (d : Declaration) (words : List (List ℕ)) (l : List legal.Pa
 line_parsed d words l v w own seen sound read words_are are_seen ends right accepted = record {
   front = front d words l v w sound read ends;
   enough = subst (λ n. least d.positionals ≤ n) (sym (counted_so d l own words_are)) right.enough;
-  complete = λ i is. sym (are_seen i is) ∙ right.all i is;
+  complete = λ i is. sym (are_seen i (required_noted d.options i is)) ∙ right.all i is;
   accepted = accepted;
   taken = subst (AreTaken d.positionals) (sym words_are) right.taken;
 }
 
--- no words mean the empty list, if nothing has to be in a line
+-- no words mean the empty list, if nothing has to be in a line and no option has a default
 pub no_words : {F V P M S : Type 0} (o : Options F V P M S) (parsed : List (Parsed F V P M S)) → parsed ≡ [] → least (declaration_of o).positionals ≤ 0
-    → list_any (λ p. has_list p) (positionals_of o) ≡ false → list_any (λ p. p.required) (options_of o) ≡ false → LineMeans o [] parsed
-no_words o parsed none few lists required =
+    → list_any (λ p. has_list p) (positionals_of o) ≡ false → list_any (λ p. p.required) (options_of o) ≡ false
+    → list_any (λ p. is_some p.default) (options_of o) ≡ false → LineMeans o [] parsed
+no_words o parsed none few lists required defaults =
     let d = declaration_of o in
     let within = zero_within (most d.positionals) in
     let are = (some_places d.positionals 0 within).1 in
@@ -77,7 +80,7 @@ no_words o parsed none few lists required =
         taken = all_taken (positionals_of o) [] lists within;
       },
       refl,
-      tt,
+      as_read (options_of o) [] [] defaults tt,
       record { places = []; are_places = record { shares = are.shares; are_shares = are.are_shares; placed = refl }; have = tt },
     )
 
@@ -117,7 +120,7 @@ lacks_option d words seen names index enough taken first are_names = record {
   stops = λ u v l step words_are are_seen.
       stops.not_complete index v step (subst (λ n. least d.positionals ≤ n) (sym (counted_so d l words words_are)) enough)
       (subst (AreTaken d.positionals) (sym words_are) taken)
-      (record { here = first.here; absent = sym (are_seen index first.here) ∙ first.absent; first = λ i below needed. sym (are_seen i needed) ∙ first.first i below needed });
+      (record { here = first.here; absent = sym (are_seen index (required_noted d.options index first.here)) ∙ first.absent; first = λ i below needed. sym (are_seen i (required_noted d.options i needed)) ∙ first.first i below needed });
 }
 
 -- ---- what was read before a mistake

@@ -9,7 +9,8 @@ use Rattle.std.specs.Str.{IsUtf8, chars}
 use Rattle.std.specs.Str.Parse.{IsNumeral, digits_value, without_leading_plus}
 use Rattle.lexopt_spec.specs.UnreadLine.{dash}
 use Rattle.lexopt_options_spec.specs.Asking.{AskFor}
-use Rattle.lexopt_options_spec.specs.Declaration.{Asked, Declaration, for_help, for_version}
+use Rattle.lexopt_options_spec.specs.Declaration.{Asked, Declaration, brief, for_brief_help}
+use Rattle.lexopt_options_spec.specs.Declaration.{for_help, for_version, full}
 use Rattle.lexopt_options_spec.specs.Help.{IsHelp, line_feed}
 use Rattle.lexopt_options.specs.declared.answer.Answer.{Answer}
 use Rattle.lexopt_options.specs.declared.answer.Answer.TheVariants as answer
@@ -124,9 +125,10 @@ script_lines o shell =
 
 -- ---- the help and the version
 
--- the text is the help at this width, or the version and a line feed
+-- the text is the full or the brief help at this width, or the version and a line feed
 abbrev pub IsAskedText : Declaration → Asked → ℕ → List ℕ → Type 0
-IsAskedText d for_help width text = IsHelp d width text
+IsAskedText d for_help width text = IsHelp full d width text
+IsAskedText d for_brief_help width text = IsHelp brief d width text
 IsAskedText d (for_version version) width text = text ≡ version ++ line_feed ∷ []
 
 -- the words ask for this text before any mistake

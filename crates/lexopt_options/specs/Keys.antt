@@ -2,10 +2,10 @@
 use Rattle.std.specs.Prelude.{◌≡◌, ℕ, Bool, true, false, List, [], ◌∷◌, Some, None, length, map, option_map, slice_get}
 use Rattle.std.specs.List.{AllZip}
 use Rattle.lexopt_options_spec.specs.Declaration as spec
-use Rattle.lexopt_options_spec.specs.Declaration.{for_help, for_version}
+use Rattle.lexopt_options_spec.specs.Declaration.{for_brief_help, for_help, for_version}
 use Rattle.lexopt_options_spec.specs.Asking.{asked_by}
 use Rattle.lexopt_options_spec.specs.Legal as legal
-use Rattle.lexopt_options_spec.specs.Legal.{IsWithin, most}
+use Rattle.lexopt_options_spec.specs.Legal.{IsWithin, most, with_defaults}
 use Rattle.lexopt_options_spec.specs.Places.{ArePlaces}
 use Rattle.lexopt_declaration.specs.Models.{option_view, positional_view}
 use Rattle.lexopt_declaration.specs.declared.declaration.Declared.{Declared}
@@ -41,6 +41,12 @@ IsParsedAs options s (parsed.Positional key word) = s ≡ legal.positional word
 abbrev pub AreParsedAs : {F V P M S : Type 0} → List (Declared F V M S) → List legal.Parsed
     → List (Parsed F V P M S) → Type 0
 AreParsedAs options l parsed = AllZip (IsParsedAs options) l parsed
+
+-- the same for a legal line that means this list: the defaults of the options that are not in it come
+-- before it
+abbrev pub AreReadAs : {F V P M S : Type 0} → List (Declared F V M S) → List legal.Parsed
+    → List (Parsed F V P M S) → Type 0
+AreReadAs options l parsed = AreParsedAs options (with_defaults (map option_view options) l) parsed
 
 -- the keys of the positionals, in order
 abbrev pub positional_keys : {F V P M S : Type 0} → List (Parsed F V P M S) → List P
@@ -95,6 +101,7 @@ IsGiven positionals places n x y = y ≡ x
 
 abbrev pub asked_view : Asked → spec.Asked
 asked_view asked.Help = for_help
+asked_view asked.BriefHelp = for_brief_help
 asked_view (asked.Version text) = for_version text.now
 
 -- what an option means

@@ -1,6 +1,8 @@
 -- What is read from a line, as contracts see it, and what one step of the reading reads.
 use Rattle.std.specs.Prelude.{None, ◌≡◌, ◌≤◌, ◌<◌, ◌+◌, ◌++◌, ◌∷◌, ℕ, Bool, true, false, List, [], Some}
-use Rattle.std.specs.Prelude.{Option, Result, Ok, Err, length, slice_get, string_bytes}
+use Rattle.std.specs.Prelude.{Option, Result, Ok, Err, length, slice_get, string_bytes, ◌||◌}
+use Rattle.std.specs.Prelude.{unwrap_or}
+use Rattle.std.specs.Option.{is_some, option_map}
 use Rattle.lexopt_spec.specs.UnreadLine.{UnreadLine, IsLine, long_option}
 use Rattle.lexopt_spec.specs.Steps as steps
 use Rattle.lexopt_spec.specs.Steps.{Next}
@@ -89,11 +91,20 @@ pub record IsFirstUnseen (options : List declared.Declared) (seen : List ℕ) (i
   pub absent : has index seen ≡ false
   pub first : (i : ℕ) → i < index → is_required options i ≡ true → has i seen ≡ true
 
--- a required option is among these indices if and only if it occurs in the list
-abbrev pub AreSeen : List declared.Declared → List spec.Parsed → List ℕ → Type 0
-AreSeen options l seen = (i : ℕ) → is_required options i ≡ true → has i seen ≡ occurs i l
+-- the option is required or has a default, so the end of a line hangs on whether the line has it
+abbrev pub is_noted : declared.Declared → Bool
+is_noted o = o.required || is_some o.default
 
--- these indices, and then this one if its option is required
+-- the same for the option at this index, if there is one
+abbrev pub is_noted_at : List declared.Declared → ℕ → Bool
+is_noted_at options i = unwrap_or (option_map is_noted (slice_get options i)) false
+
+-- an option that is required or has a default is among these indices if and only if it occurs in the
+-- list
+abbrev pub AreSeen : List declared.Declared → List spec.Parsed → List ℕ → Type 0
+AreSeen options l seen = (i : ℕ) → is_noted_at options i ≡ true → has i seen ≡ occurs i l
+
+-- these indices, and then this one if its option is required or has a default
 abbrev pub noted : Bool → ℕ → List ℕ → List ℕ
 noted true index seen = seen ++ index ∷ []
 noted false index seen = seen

@@ -16,7 +16,7 @@ use crate::parsed::{Asked, Parsed};
 use crate::refused::{Line, Refused};
 use crate::request::Request;
 use lexopt_declaration::declaration::{Positional, Words};
-use lexopt_declaration::help::WIDTH;
+use lexopt_declaration::help::{Detail, WIDTH};
 use lexopt_declaration::message::push_help;
 use lexopt_declaration::shell::{Script, Shell, variable};
 use lexopt_declaration::spellings::Spelling;
@@ -361,7 +361,8 @@ impl<F, V, P, M, S> Options<'_, F, V, P, M, S> {
             (string_bytes text)) }
     {
         match asked {
-            Asked::Help => self.help(alloc, width),
+            Asked::Help => self.help(alloc, Detail::Full, width),
+            Asked::BriefHelp => self.help(alloc, Detail::Brief, width),
             Asked::Version(version) => format!(in alloc; "{version}\n"),
         }
     }

@@ -248,6 +248,7 @@ fn joined_value(
 // ---- the options of these indices
 
 // The option at this index.
+#[tactic(auto, using(crate::proofs::Accepted::at_place))]
 fn option_at<'a, F, V, M, S>(
     options: &'a [Declared<'a, F, V, M, S>],
     index: usize,

@@ -31,7 +31,9 @@ pub const NO_ALIASES: &[Names<'static>] = &[];
 /// - `value(key, names, placeholder, help text)`: an option of one value.
 /// - `maybe(key, names, placeholder, help text)`: an option whose value may be left out.
 /// - `values(key, names, placeholder, help text)`: an option of several values, at least one.
-/// - `help(names)`: an option that asks for the help.
+/// - `help(names)`: an option that asks for the full help.
+/// - `brief_help(names)`: an option that asks for the brief help, which has neither the longer help
+///   texts of options nor the epilogue.
 /// - `version(names, text)`: an option that asks for the version, which is this text.
 ///
 /// After that come any of these, in any order:
@@ -39,12 +41,21 @@ pub const NO_ALIASES: &[Names<'static>] = &[];
 /// - `.hidden()` leaves the option out of the help. Shells offer its names only where they are typed
 ///   whole, and no hint has its long name.
 /// - `.heading("Output options")` begins a group in the help with the line `Output options:`. The
-///   group ends before the next option that has a heading. If the option is hidden, the heading is
+///   group ends before the next option that has a heading. If the option has no entry, the heading is
 ///   left out with it.
+/// - `.details("..")` gives it a longer help text, which the full help has in place of the help text.
 /// - `.required()` makes it an option that every line has to have.
+/// - `.default("4")` gives an option of one value, which is not required, the value that it has where
+///   a line does not have it.
 /// - `.alias(Names::Long("colour"))` gives it further names, which lines may have like its own. The
 ///   help, messages and hints show its own names only, and shells offer these only where they are
 ///   typed whole. Several of these may follow.
+/// - `.with_flag('F')` shows a flag before it in its label: `-F, --classify[=WHEN]`, where
+///   `flag(key, Names::Short('F'), help text)` comes before an option that has a long name only.
+///   The flag then has no entry of its own in the help.
+/// - `.with_negation()` shows its negation in its label: `--[no-]color`, where
+///   `flag(key, Names::Long("no-color"), help text)` comes before the option `--color`. The negation
+///   then has no entry of its own in the help.
 /// - `.one_of(&["fast", "slow"])` lists the values that it accepts, which shells offer.
 /// - `.hide_list()` leaves that list out of the help.
 /// - `.directories()` has shells offer the names of directories for its values.
@@ -143,6 +154,11 @@ macro_rules! declare {
     (@help($names:expr $(,)?) $($mark:tt)*) => {
         $crate::declare!(@option $names, $crate::Kind::Help, "print this help and exit", $($mark)*)
     };
+    (@brief_help($names:expr $(,)?) $($mark:tt)*) => {
+        $crate::declare!(
+            @option $names, $crate::Kind::BriefHelp, "print a brief help and exit", $($mark)*
+        )
+    };
     (@version($names:expr, $version:expr $(,)?) $($mark:tt)*) => {
         $crate::declare!(
             @option $names, $crate::Kind::Version($version), "print the version and exit", $($mark)*
@@ -153,12 +169,15 @@ macro_rules! declare {
             names: $names,
             kind: $kind,
             help: $help,
+            details: $crate::declare!(@details "", $(.$mark $marked)*),
             heading: $crate::declare!(@heading "", $(.$mark $marked)*),
             hidden: false $(|| $crate::declare!(@is_hidden $mark))*,
             required: false $(|| $crate::declare!(@is_required $mark))*,
+            default: $crate::declare!(@default None, $(.$mark $marked)*),
             words: $crate::declare!(@option_words $crate::Words::Files, $(.$mark $marked)*),
             hides_list: false $(|| $crate::declare!(@hides_list $mark))*,
             aliases: $crate::declare!(@aliases [] $(.$mark $marked)*),
+            beside: $crate::declare!(@beside $crate::Beside::Nothing, $(.$mark $marked)*),
         }
     };
     (@is_hidden hidden) => { true };
@@ -173,6 +192,30 @@ macro_rules! declare {
     };
     (@heading $heading:expr, .$mark:ident $marked:tt $($marks:tt)*) => {
         $crate::declare!(@heading $heading, $($marks)*)
+    };
+    (@details $details:expr,) => { $details };
+    (@details $details:expr, .details($given:expr $(,)?) $($mark:tt)*) => {
+        $crate::declare!(@details $given, $($mark)*)
+    };
+    (@details $details:expr, .$mark:ident $marked:tt $($marks:tt)*) => {
+        $crate::declare!(@details $details, $($marks)*)
+    };
+    (@default $default:expr,) => { $default };
+    (@default $default:expr, .default($given:expr $(,)?) $($mark:tt)*) => {
+        $crate::declare!(@default Some($given), $($mark)*)
+    };
+    (@default $default:expr, .$mark:ident $marked:tt $($marks:tt)*) => {
+        $crate::declare!(@default $default, $($marks)*)
+    };
+    (@beside $beside:expr,) => { $beside };
+    (@beside $beside:expr, .with_flag($given:expr $(,)?) $($mark:tt)*) => {
+        $crate::declare!(@beside $crate::Beside::Flag($given), $($mark)*)
+    };
+    (@beside $beside:expr, .with_negation() $($mark:tt)*) => {
+        $crate::declare!(@beside $crate::Beside::Negation, $($mark)*)
+    };
+    (@beside $beside:expr, .$mark:ident $marked:tt $($marks:tt)*) => {
+        $crate::declare!(@beside $beside, $($marks)*)
     };
     (@aliases []) => { $crate::NO_ALIASES };
     (@aliases [$($alias:expr),+]) => { &[$($alias),+] };
@@ -190,6 +233,18 @@ macro_rules! declare {
         $crate::declare!(@option_words $words, $($mark)*)
     };
     (@option_words $words:expr, .heading $marked:tt $($mark:tt)*) => {
+        $crate::declare!(@option_words $words, $($mark)*)
+    };
+    (@option_words $words:expr, .details $marked:tt $($mark:tt)*) => {
+        $crate::declare!(@option_words $words, $($mark)*)
+    };
+    (@option_words $words:expr, .default $marked:tt $($mark:tt)*) => {
+        $crate::declare!(@option_words $words, $($mark)*)
+    };
+    (@option_words $words:expr, .with_flag $marked:tt $($mark:tt)*) => {
+        $crate::declare!(@option_words $words, $($mark)*)
+    };
+    (@option_words $words:expr, .with_negation() $($mark:tt)*) => {
         $crate::declare!(@option_words $words, $($mark)*)
     };
     (@option_words $words:expr, .hide_list() $($mark:tt)*) => {

@@ -125,7 +125,7 @@ fn read_after_name<F, V, M, S>(
         → IsAfterName d index parser.old found parser.new) }
 {
     match option.kind {
-        Kind::Flag(_) | Kind::Help | Kind::Version(_) => Ok(AfterName::Values {
+        Kind::Flag(_) | Kind::Help | Kind::BriefHelp | Kind::Version(_) => Ok(AfterName::Values {
             accepted: true,
             first: None,
             goes_on: false,

@@ -153,11 +153,12 @@
 //!   does not have, or leave it out at the end. Keys are `Clone` and `Copy`; those that are given
 //!   to [`Options::parse_value`] are also `PartialEq`.
 //! - [`declare!`](crate::declare) lists what a line of the declaration can be. `.required()` is for
-//!   an option that each line must have, `.one_of(&["fast", "slow"])` for values in a list,
-//!   `.hidden()` for an option that the help leaves out and whose names hints do not have, and
-//!   `.alias(Names::Long("colour"))` for a further name, which only lines have. Shells offer both
-//!   only where they are typed whole. For values and positionals shells offer the names of files;
-//!   after `.directories()` those of directories, and after `.text()` nothing.
+//!   an option that each line must have, `.default("4")` for the value of one that a line does not
+//!   have, `.one_of(&["fast", "slow"])` for values in a list, `.hidden()` for an option that the
+//!   help leaves out and whose names hints do not have, and `.alias(Names::Long("colour"))` for a
+//!   further name, which only lines have. Shells offer both only where they are typed whole. For
+//!   values and positionals shells offer the names of files; after `.directories()` those of
+//!   directories, and after `.text()` nothing.
 //!
 //! # What to call
 //!
@@ -166,11 +167,11 @@
 //!   `lexopt_runtime_options` takes a declaration that is made when the program runs, and may
 //!   return a `DeclarationError`.
 //! - [`Options::from_env`] reads the program's own line, or the request of a shell. It returns an
-//!   [`Answer`]. `Answer::Parsed` has what the line means, in the order in which it was typed.
-//!   `Answer::Text` has the help, the version or what a shell asked for, to be printed.
-//!   `Answer::Refused` has the mistake; [`Refused::print`] prints it on standard error, and returns
-//!   the status to exit with, [`USAGE_ERROR`]. A shell reads what the program prints, so print
-//!   nothing before.
+//!   [`Answer`]. `Answer::Parsed` has what the line means, in the order in which it was typed, after
+//!   the defaults of the options that it does not have. `Answer::Text` has the help, the version or
+//!   what a shell asked for, to be printed. `Answer::Refused` has the mistake; [`Refused::print`]
+//!   prints it on standard error, and returns the status to exit with, [`USAGE_ERROR`]. A shell
+//!   reads what the program prints, so print nothing before.
 //! - [`Parsed`] is an option or a positional that was read: its key, with its values as
 //!   [`OsString`]s, which may be any bytes. An option that was typed twice is there twice. Print a
 //!   word by [`Visible`], which escapes damage and each character that a terminal may act on, as
@@ -243,9 +244,9 @@ pub use usage::{Report, UsageError};
 
 // The parts of a declaration, and the scripts for shells.
 pub use lexopt_declaration::declaration::{
-    Arity, Count, Declaration, Declared, Group, Kind, Names, Positional, Words,
+    Arity, Beside, Count, Declaration, Declared, Group, Kind, Names, Positional, Words,
 };
-pub use lexopt_declaration::help::WIDTH;
+pub use lexopt_declaration::help::{Detail, WIDTH};
 pub use lexopt_declaration::shell::{Script, Shell, ShellRequest, variable};
 pub use lexopt_declaration::spellings::Spelling;
 

@@ -1,6 +1,7 @@
 //! A declaration that was checked, and what every reading of a line needs to know of it.
 ghost use Rattle.std.specs.Prelude.{◌≡◌, true, map};
 ghost use Rattle.std.specs.List.{list_any};
+ghost use Rattle.std.specs.Option.{is_some};
 ghost use Rattle.lexopt_options_spec.specs.Declaration.{are_clear, are_listable, is_sound};
 ghost use Rattle.lexopt_options_spec.specs.Legal as legal;
 ghost use Rattle.lexopt_options_spec.specs.Places as places;
@@ -10,6 +11,7 @@ ghost use Rattle.lexopt_declaration.specs.Models.{option_view, positional_view};
 use crate::taken::any_has_list;
 use lexopt_declaration::declaration::{Declaration, Declared, Positional, are_text};
 use lexopt_declaration::help;
+use lexopt_declaration::help::Detail;
 use lexopt_declaration::positionals::{least_of, most_of};
 use std::alloc::{AllocError, Global};
 use std::convert::Infallible;
@@ -27,6 +29,7 @@ pub struct Options<'a, F, V = Infallible, P = Infallible, M = Infallible, S = In
     most: Option<usize>,
     has_lists: bool,
     has_required: bool,
+    has_defaults: bool,
     ghost sound: { is_sound (map option_view declaration.now.options.now) ≡ true },
     ghost clear: { are_clear (map positional_view declaration.now.positionals.now) ≡ true },
     ghost listable: { are_listable (map positional_view declaration.now.positionals.now) ≡ true },
@@ -36,6 +39,8 @@ pub struct Options<'a, F, V = Infallible, P = Infallible, M = Infallible, S = In
         ≡ list_any (λ p. has_list p) declaration.now.positionals.now },
     ghost required: { has_required
         ≡ list_any (λ o. o.required) declaration.now.options.now },
+    ghost defaults: { has_defaults
+        ≡ list_any (λ o. is_some o.default) declaration.now.options.now },
 }
 
 // Whether this option is required.
@@ -50,6 +55,20 @@ fn any_is_required<F, V, M, S>(options: &[Declared<'_, F, V, M, S>]) -> bool
     ensures { result ≡ list_any (λ o. o.required) options.now }
 {
     options.iter().any(|option| is_required(option))
+}
+
+// Whether this option has a default.
+fn has_default<F, V, M, S>(option: &Declared<'_, F, V, M, S>) -> bool
+    ensures { result ≡ is_some option.now.default }
+{
+    option.default.is_some()
+}
+
+// Whether one of these options has a default.
+fn any_has_default<F, V, M, S>(options: &[Declared<'_, F, V, M, S>]) -> bool
+    ensures { result ≡ list_any (λ o. is_some o.default) options.now }
+{
+    options.iter().any(|option| has_default(option))
 }
 
 // Makes `Options` of a declaration that can be declared. It is not inlined, so that the loops of
@@ -71,12 +90,14 @@ fn checked<'a, F, V, P, M, S>(
         most: most_of(declaration.positionals),
         has_lists: any_has_list(declaration.positionals),
         has_required: any_is_required(declaration.options),
+        has_defaults: any_has_default(declaration.options),
     }
 }
 
 impl<'a, F, V, P, M, S> Options<'a, F, V, P, M, S> {
     ghost use Rattle.std.specs.Prelude.{◌≡◌, IfOk, None, map, string_bytes, true};
     ghost use Rattle.std.specs.List.{list_any};
+    ghost use Rattle.std.specs.Option.{is_some};
     ghost use Rattle.lexopt_options_spec.specs.Legal as legal;
     ghost use Rattle.lexopt_options_spec.specs.Places as places;
     ghost use Rattle.lexopt_options.specs.Taken.{has_list};
@@ -84,7 +105,7 @@ impl<'a, F, V, P, M, S> Options<'a, F, V, P, M, S> {
     ghost use Rattle.lexopt_options_spec.specs.Declaration.{are_clear, are_listable};
     ghost use Rattle.lexopt_options_spec.specs.Declaration.{is_sound};
     ghost use Rattle.lexopt_options_spec.specs.Help.{IsHelp, IsUsage};
-    ghost use Rattle.lexopt_declaration.specs.Models.{option_view, positional_view};
+    ghost use Rattle.lexopt_declaration.specs.Models.{detail_view, option_view, positional_view};
     ghost use Rattle.lexopt_declaration.specs.Declarations.{declaration_view};
     ghost use Rattle.lexopt_options.specs.Declarations.{declaration_of, options_of, positionals_of};
 
@@ -151,6 +172,7 @@ impl<'a, F, V, P, M, S> Options<'a, F, V, P, M, S> {
             most: self.most,
             has_lists: self.has_lists,
             has_required: self.has_required,
+            has_defaults: self.has_defaults,
         }
     }
 
@@ -241,6 +263,13 @@ impl<'a, F, V, P, M, S> Options<'a, F, V, P, M, S> {
         self.has_required
     }
 
+    // Whether one of the options has a default.
+    pub(crate) fn has_defaults(&self) -> bool
+        ensures { result ≡ list_any (λ o. is_some o.default) (options_of self.now) }
+    {
+        self.has_defaults
+    }
+
     /// Returns the usage, wrapped to `width` columns: a line, or several, each with a line feed at
     /// its end.
     ///
@@ -283,10 +312,14 @@ impl<'a, F, V, P, M, S> Options<'a, F, V, P, M, S> {
     ///
     /// It has these parts, in this order: the usage; what the program does; an entry for each
     /// positional that has a word in its help text, or a list that is not hidden; an entry for each
-    /// option that is not hidden, after its heading if it has one; and the paragraphs of the
-    /// epilogue that have a word. Entries are in the order of the declaration. An empty line comes
-    /// before the first positional, before the first option, before each heading, and before each
-    /// paragraph of the epilogue. Each line ends with a line feed.
+    /// option that is not hidden, after its heading if it has one; and, if it is the full help, the
+    /// paragraphs of the epilogue that have a word. Entries are in the order of the declaration. An
+    /// empty line comes before the first positional, before the first option, before each heading,
+    /// and before each paragraph of the epilogue. Each line ends with a line feed.
+    ///
+    /// The full help has the longer help text of an option, if there is one, in place of the help
+    /// text. A list comes after the text, and a default after both, as in `how many [default: 4]`. A
+    /// flag or a negation that the label of another option shows has no entry of its own.
     ///
     /// The text of an entry begins at column 24, counted from 0, or at a third of `width` if that
     /// is less: on the line of its label if at least two blanks are between them, otherwise on the
@@ -304,7 +337,7 @@ impl<'a, F, V, P, M, S> Options<'a, F, V, P, M, S> {
     /// # Examples
     ///
     /// ```rust
-    /// rt.print(options.help(alloc, WIDTH)?)?;
+    /// rt.print(options.help(alloc, Detail::Full, WIDTH)?)?;
     /// ```
     ///
     /// For the declaration of `example_copy` that prints
@@ -327,11 +360,11 @@ impl<'a, F, V, P, M, S> Options<'a, F, V, P, M, S> {
     ///
     /// A file is never copied onto itself.
     /// ```
-    pub fn help(&self, alloc: Global, width: usize) -> Result<String, AllocError>
-        ensures { IfOk result
-            (λ text. IsHelp (declaration_of self.now) width (string_bytes text)) }
+    pub fn help(&self, alloc: Global, detail: Detail, width: usize) -> Result<String, AllocError>
+        ensures { IfOk result (λ text.
+            IsHelp (detail_view detail) (declaration_of self.now) width (string_bytes text)) }
     {
-        help::help(alloc, &self.named(), width)
+        help::help(alloc, detail, &self.named(), width)
     }
 }
 

@@ -46,8 +46,10 @@ pub enum Parsed<F, V = Infallible, P = Infallible, M = Infallible, S = Infallibl
 /// What a line asks for instead of the program's work.
 #[derive(Debug, Clone, Copy, PartialEq, Eq)]
 pub enum Asked<'a> {
-    /// The help.
+    /// The full help.
     Help,
+    /// The brief help.
+    BriefHelp,
     /// The version: the text in the declaration.
     Version(&'a str),
 }

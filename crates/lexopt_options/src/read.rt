@@ -1,8 +1,8 @@
 //! Reads a whole line by a declaration. `rest.rt` reads a line whose rest is not read.
-ghost use Rattle.std.specs.Prelude.{◌≡◌, ◌≢◌, ◌≤◌, ◌↔◌, ℕ, List, IfOk, OnOk, slice_get, true};
+ghost use Rattle.std.specs.Prelude.{◌≡◌, ◌≢◌, ◌≤◌, ◌↔◌, ◌++◌, ℕ, List, IfOk, OnOk, slice_get, true};
 ghost use Rattle.std.specs.Prelude.{IsTrue, None, Option, Some, false, length, map};
 ghost use Rattle.std.specs.List.{list_any};
-ghost use Rattle.std.specs.Option.{MatchOption};
+ghost use Rattle.std.specs.Option.{MatchOption, is_some};
 ghost use Rattle.lexopt_spec.specs.UnreadLine.{IsLine, Tail, UnreadLine};
 ghost use Rattle.lexopt_spec.specs.Steps as steps;
 ghost use Rattle.lexopt_spec.specs.Steps.{Next};
@@ -13,23 +13,24 @@ ghost use Rattle.lexopt_line_spec.specs.Table as table;
 ghost use Rattle.lexopt_options_spec.specs.Declaration.{Declaration, has, index_of, is_sound};
 ghost use Rattle.lexopt_options_spec.specs.Asking.{asked_by};
 ghost use Rattle.lexopt_options_spec.specs.Legal as legal;
-ghost use Rattle.lexopt_options_spec.specs.Legal.{IsWithin, counts, most};
-ghost use Rattle.lexopt_options_spec.specs.Legal.{refused_value};
+ghost use Rattle.lexopt_options_spec.specs.Legal.{IsWithin, counts, default_beside};
+ghost use Rattle.lexopt_options_spec.specs.Legal.{defaults_beside, most, refused_value};
 ghost use Rattle.lexopt_options_spec.specs.Places.{least};
 ghost use Rattle.lexopt_options_spec.specs.Stops as stops;
 ghost use Rattle.lexopt_declaration.specs.Models.{option_view};
 ghost use Rattle.lexopt_declaration.specs.Lookups.{names_at};
 ghost use Rattle.lexopt_options.specs.Declarations.{declaration_of, options_of, positionals_of};
-ghost use Rattle.lexopt_options.specs.Keys.{asked_view, parsed_words};
+ghost use Rattle.lexopt_options.specs.Keys.{AreParsedAs, AreReadAs, asked_view, parsed_words};
+ghost use Rattle.lexopt_options.specs.Keys.{positional_keys};
 ghost use Rattle.lexopt_options.specs.Kinds as kinds;
 ghost use Rattle.lexopt_options.specs.Taken.{has_list};
 ghost use Rattle.lexopt_options.specs.Mistakes.{AreNames, IsMistake};
 ghost use Rattle.lexopt_options.specs.Lines.{IsLineRead, IsRefused};
-ghost use Rattle.lexopt_options.specs.Reading.{AllSeen, ComesNext, UndeclaredNext};
+ghost use Rattle.lexopt_options.specs.Reading.{AllSeen, AreSeen, ComesNext, UndeclaredNext};
 ghost use Rattle.lexopt_options.specs.Reading.{HasEnded, HasRead, HasStopped, IsFirstUnseen};
 ghost use Rattle.lexopt_options.specs.Reading.{IsNothing, IsReadByKey, IsRight, IsWrong};
 ghost use Rattle.lexopt_options.specs.Reading.{ReadsParsed};
-ghost use Rattle.lexopt_options.specs.Reading.{StopsAtOption, noted};
+ghost use Rattle.lexopt_options.specs.Reading.{StopsAtOption, is_noted, noted};
 
 use crate::listed::{accepts, invalid_value, refused_place};
 use crate::mistake::{Mistake, OptionName, short_hints};
@@ -84,7 +85,7 @@ pub(crate) struct Read<F, V, P, M, S> {
     // What the line means, by keys; if an option has a mistake, then before it. Each positional has
     // the key of the first declared one.
     pub(crate) parsed: Vec<Parsed<F, V, P, M, S>>,
-    // The indices of the required options that were read.
+    // The indices of the options that were read and are required or have a default.
     pub(crate) seen: Vec<usize>,
     // The number of positionals.
     pub(crate) count: usize,
@@ -147,6 +148,7 @@ fn read_by_key<'a, F: Copy, V: Copy, P, M: Copy, S: Copy>(
     match option.kind {
         declared::Kind::Flag(key) => Ok(Ok(ByKey::Parsed(Parsed::Flag(key)))),
         declared::Kind::Help => Ok(Ok(ByKey::Asked(Asked::Help))),
+        declared::Kind::BriefHelp => Ok(Ok(ByKey::Asked(Asked::BriefHelp))),
         declared::Kind::Version(text) => Ok(Ok(ByKey::Asked(Asked::Version(text)))),
         declared::Kind::Value(key, _) => match parser.take() {
             Ok(value) => {
@@ -321,11 +323,18 @@ fn missing_option<'a, F, V, P, M, S>(
     first_unseen(options.options(), seen)
 }
 
-// Adds the index of an option that was read to `seen`, if the option is required.
-fn note(required: bool, index: usize, seen: &mut Vec<usize>) -> Result<(), AllocError>
-    ensures { OnOk result (seen.new.items ≡ noted required index seen.old.items) }
+// Whether this option is required or has a default.
+fn is_noted<F, V, M, S>(option: &Declared<'_, F, V, M, S>) -> bool
+    ensures { result ≡ is_noted (option_view option.now) }
 {
-    if required {
+    option.required || option.default.is_some()
+}
+
+// Adds the index of an option that was read to `seen`, if the option is required or has a default.
+fn note(counts: bool, index: usize, seen: &mut Vec<usize>) -> Result<(), AllocError>
+    ensures { OnOk result (seen.new.items ≡ noted counts index seen.old.items) }
+{
+    if counts {
         seen.push(index)?;
     }
     Ok(())
@@ -345,6 +354,19 @@ fn is_complete<F, V, P, M, S>(options: &Options<'_, F, V, P, M, S>, count: usize
         return false;
     }
     !options.has_required()
+}
+
+// Whether a line without words means the empty list.
+fn means_nothing<F, V, P, M, S>(options: &Options<'_, F, V, P, M, S>) -> bool
+    ensures { IsTrue result ↔ (least (declaration_of options.now).positionals ≤ 0)
+        × (list_any (λ p. has_list p) (positionals_of options.now) ≡ false)
+        × (list_any (λ o. o.required) (options_of options.now) ≡ false)
+        × (list_any (λ o. is_some o.default) (options_of options.now) ≡ false) }
+{
+    if options.has_defaults() {
+        return false;
+    }
+    is_complete(options, 0)
 }
 
 // The mistake at the end of a line of which this was read, with `count` positionals: something is
@@ -374,6 +396,99 @@ fn end_mistake<'a, F, V, P, M, S>(
         Some(names) => Ok(Some(Mistake::MissingOption(names))),
         None => Ok(None),
     }
+}
+
+// ---- defaults
+
+// Adds the option at this index with its default to `defaults`, if it has one and the index is not
+// among `seen`.
+fn add_default<F: Drop, V: Copy, P: Drop, M: Drop, S: Drop>(
+    alloc: Global,
+    option: &Declared<'_, F, V, M, S>,
+    index: usize,
+    seen: &[usize],
+    defaults: &mut Vec<Parsed<F, V, P, M, S>>,
+) -> Result<(), AllocError>
+    ensures { OnOk result ((options : List (Declared F V M S)) (l : List legal.Parsed)
+        → is_sound (map option_view options) ≡ true → slice_get options index ≡ Some option.now
+        → AreSeen (map option_view options) l seen.now
+        → (own : List (Parsed F V P M S)) × (defaults.new.items ≡ defaults.old.items ++ own)
+        × AreParsedAs options (default_beside l index (option_view option.now)) own) }
+{
+    let Some(default) = option.default else {
+        return Ok(());
+    };
+    if is_among(index, seen) {
+        return Ok(());
+    }
+    match option.kind {
+        declared::Kind::Value(key, _) => {
+            let word = OsString::from_text(alloc, default)?;
+            defaults.push(Parsed::Value(key, word))?;
+            Ok(())
+        }
+        // No other option has a default.
+        _ => Ok(()),
+    }
+}
+
+// The options that have a default and whose index is not among `seen`, with their defaults.
+fn defaults_beside<F: Drop, V: Copy, P: Drop, M: Drop, S: Drop>(
+    alloc: Global,
+    options: &[Declared<'_, F, V, M, S>],
+    seen: &[usize],
+) -> Result<Vec<Parsed<F, V, P, M, S>>, AllocError>
+    requires { is_sound (map option_view options.now) ≡ true }
+    ensures { IfOk result (λ defaults. (l : List legal.Parsed)
+        → AreSeen (map option_view options.now) l seen.now
+        → AreParsedAs options.now (defaults_beside l 0 (map option_view options.now)) defaults.items) }
+{
+    let mut defaults = Vec::new(alloc);
+    for (index, option) in options.iter().enumerate() {
+        add_default(alloc, option, index, seen, &mut defaults)?;
+    }
+    Ok(defaults)
+}
+
+// What a legal line means of which this was read: the defaults of the options whose index is not
+// among `seen` come before it. It is not inlined, since few programs have defaults.
+#[inline(never)]
+fn after_defaults<'a, F: Drop, V: Copy, P: Drop, M: Drop, S: Drop>(
+    alloc: Global,
+    options: &Options<'a, F, V, P, M, S>,
+    seen: &[usize],
+    parsed: Vec<Parsed<F, V, P, M, S>>,
+) -> Result<Vec<Parsed<F, V, P, M, S>>, AllocError>
+    ensures { IfOk result (λ all. (l : List legal.Parsed)
+        → AreSeen (declaration_of options.now).options l seen.now
+        → AreParsedAs (options_of options.now) l parsed.items
+        → AreReadAs (options_of options.now) l all.items
+        × (positional_keys all.items ≡ positional_keys parsed.items)) }
+{
+    let mut all = defaults_beside(alloc, options.options(), seen)?;
+    let mut parsed = parsed;
+    all.append(&mut parsed)?;
+    Ok(all)
+}
+
+// The same, by one test if no option of the declaration has a default.
+#[inline(always)]
+fn with_defaults<'a, F: Drop, V: Copy, P: Drop, M: Drop, S: Drop>(
+    alloc: Global,
+    options: &Options<'a, F, V, P, M, S>,
+    seen: &[usize],
+    parsed: Vec<Parsed<F, V, P, M, S>>,
+) -> Result<Vec<Parsed<F, V, P, M, S>>, AllocError>
+    ensures { IfOk result (λ all. (l : List legal.Parsed)
+        → AreSeen (declaration_of options.now).options l seen.now
+        → AreParsedAs (options_of options.now) l parsed.items
+        → AreReadAs (options_of options.now) l all.items
+        × (positional_keys all.items ≡ positional_keys parsed.items)) }
+{
+    if !options.has_defaults() {
+        return Ok(parsed);
+    }
+    after_defaults(alloc, options, seen, parsed)
 }
 
 // ---- a line
@@ -436,7 +551,7 @@ pub(crate) fn read_keys<'a, F: Copy, V: Copy, P: Copy, M: Copy, S: Copy>(
                 match read_by_key(alloc, parser, option)? {
                     Ok(ByKey::Parsed(own)) => {
                         read.parsed.push(own)?;
-                        note(option.required, index, &mut read.seen)?;
+                        note(is_noted(option), index, &mut read.seen)?;
                     }
                     Ok(ByKey::Asked(asked)) => return ask(parser, options, asked),
                     Err(mistake) => return Ok(Ended::Mistake(mistake)),
@@ -491,7 +606,8 @@ pub(crate) fn refused_for<'a, F, V, P: Copy, M, S>(
 // The result for a line of which this was read. It is separate from `read_line`, which drops the
 // parser, so that both proofs stay cheap.
 #[inline(always)]
-pub(crate) fn line_of<'a, F: Drop, V: Drop, P: Copy, M: Drop, S: Drop>(
+pub(crate) fn line_of<'a, F: Drop, V: Copy, P: Copy, M: Drop, S: Drop>(
+    alloc: Global,
     options: &Options<'a, F, V, P, M, S>,
     read: Read<F, V, P, M, S>,
     ended: Ended<'a>,
@@ -511,7 +627,8 @@ pub(crate) fn line_of<'a, F: Drop, V: Drop, P: Copy, M: Drop, S: Drop>(
             Some(mistake) => Ok(Line::Refused(refused_for(options, parsed, mistake))),
             None => {
                 give_keys(options.positionals(), &mut parsed);
-                Ok(Line::Parsed(parsed))
+                let all = with_defaults(alloc, options, &seen, parsed)?;
+                Ok(Line::Parsed(all))
             }
         },
         Ended::Positional(word) => {
@@ -535,7 +652,7 @@ fn read_line<'a, F: Copy, V: Copy, P: Copy, M: Copy, S: Copy>(
     let mut parser = options.parser_of(words);
     let mut read = nothing_read(alloc, room)?;
     let ended = read_keys(alloc, &mut parser, options, RestStart::Surplus, &mut read)?;
-    line_of(options, read, ended)
+    line_of(alloc, options, read, ended)
 }
 
 impl<'a, F, V, P, M, S> Options<'a, F, V, P, M, S> {
@@ -573,9 +690,11 @@ impl<'a, F: Copy, V: Copy, P: Copy, M: Copy, S: Copy> Options<'a, F, V, P, M, S>
     ///
     /// The words are without the name of the program. This call consumes them. The forms are those
     /// that lexopt documents: `-o value`, `-ovalue`, `-o=value`, `--name value`, `--name=value`,
-    /// and flags in a cluster; `docs/behaviour.md` has them all. If an option that asks for the
-    /// help or the version occurs before any mistake, the line is [`Line::Asked`], whatever comes
-    /// after it. A refusal has the first mistake, and what the line means before it.
+    /// and flags in a cluster; `docs/behaviour.md` has them all. What a legal line means comes after
+    /// the defaults of the options that it does not have, which are in the order of the declaration.
+    /// If an option that asks for the help or the version occurs before any mistake, the line is
+    /// [`Line::Asked`], whatever comes after it. A refusal has the first mistake, and what the line
+    /// means before it, without defaults.
     ///
     /// # Errors
     ///
@@ -595,7 +714,7 @@ impl<'a, F: Copy, V: Copy, P: Copy, M: Copy, S: Copy> Options<'a, F, V, P, M, S>
     ///         // Flag(Verbose), Value(Output, "x"), Value(Mode, "fast"),
     ///         // Positional(File, "a"), Positional(File, "-b")
     ///     }
-    ///     Line::Asked(Asked::Help) => rt.print(options.help(alloc, WIDTH)?)?,
+    ///     Line::Asked(Asked::Help) => rt.print(options.help(alloc, Detail::Full, WIDTH)?)?,
     ///     Line::Asked(Asked::Version(version)) => rt.println(version)?,
     ///     Line::Refused(refused) => rt.eprintln(refused)?,
     /// }
@@ -607,18 +726,19 @@ impl<'a, F: Copy, V: Copy, P: Copy, M: Copy, S: Copy> Options<'a, F, V, P, M, S>
     ) -> Result<Line<'a, F, V, P, M, S>, AllocError>
         // The list is the one that the words legally spell, by the keys: declared options, each
         // required one among them, and a number of positionals that the declaration allows, all
-        // with values and words that they accept; and it asks for nothing. Or the words ask for the
-        // help or the version before any mistake. Or their reading stops at this mistake, before
-        // which this was read and nothing was asked for.
+        // with values and words that they accept; and it asks for nothing. The defaults of the
+        // options that are not in it come before it. Or the words ask for the help or the version
+        // before any mistake. Or their reading stops at this mistake, before which this was read and
+        // nothing was asked for.
         ensures line { IfOk result (λ line. IsLineRead self.now words.items line) }
 
-        // If the words legally spell such a list, this is that list or what it asks for; the line
-        // is not refused.
+        // If the words legally spell such a list, this is that list after the defaults, or what it
+        // asks for; the line is not refused.
         ensures answered { (l : List legal.Parsed) → Means (declaration_of self.now) words.items l
             → IfOk result (λ line. IsLineOf self.now l line) }
     {
-        // Without words there is nothing to read, so no parser is made.
-        if words.is_empty() && is_complete(self, 0) {
+        // There may be nothing to read, so no parser is made.
+        if words.is_empty() && means_nothing(self) {
             return Ok(Line::Parsed(Vec::new(alloc)));
         }
         read_line(alloc, self, words)

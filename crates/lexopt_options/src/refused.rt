@@ -28,7 +28,8 @@ pub struct Refused<'a, F, V = Infallible, P = Infallible, M = Infallible, S = In
     /// The names of the first option that asks for the help, if one is declared.
     pub help: Option<Names<'a>>,
     /// What the line means before the mistake. An option whose value is missing, unexpected or
-    /// invalid is not part of it.
+    /// invalid is not part of it, and neither is a default, unless all options were read and the
+    /// mistake, which `lexopt_commands` found, is in what comes after them.
     pub before: Vec<Parsed<F, V, P, M, S>>,
     /// The mistake.
     pub mistake: Mistake<'a>,
@@ -91,7 +92,8 @@ impl<F: Drop, V: Drop, P: Drop, M: Drop, S: Drop> std::error::Error
 /// The result of reading a line.
 #[derive(Debug, Drop)]
 pub enum Line<'a, F, V = Infallible, P = Infallible, M = Infallible, S = Infallible> {
-    /// The line is legal. This is what it means, in order.
+    /// The line is legal. This is what it means, in order, after the defaults of the options that it
+    /// does not have.
     Parsed(Vec<Parsed<F, V, P, M, S>>),
     /// The line asks for the help or the version before any mistake.
     Asked(Asked<'a>),

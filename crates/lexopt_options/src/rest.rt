@@ -98,16 +98,16 @@ fn read_parsed<'a, F: Copy, V: Copy, P: Copy, M: Copy, S: Copy>(
     let ended = read_keys(alloc, parser, options, begins, &mut read)?;
     match ended {
         Ended::End => {
-            let line = line_of(options, read, Ended::End)?;
+            let line = line_of(alloc, options, read, Ended::End)?;
             Ok((line, Vec::new(alloc)))
         }
         Ended::Positional(word) => {
             if begins_here(begins, parser) {
                 let rest = words_from(alloc, parser, word, room)?;
-                let line = line_of(options, read, Ended::End)?;
+                let line = line_of(alloc, options, read, Ended::End)?;
                 Ok((line, rest))
             } else {
-                let line = line_of(options, read, Ended::Positional(word))?;
+                let line = line_of(alloc, options, read, Ended::Positional(word))?;
                 Ok((line, Vec::new(alloc)))
             }
         }
@@ -158,7 +158,7 @@ pub fn read_rest<'a, F: Copy, V: Copy, P: Copy, M: Copy, S: Copy>(
     ensures read { IfOk result (λ found.
         IsRestRead (start_view begins) options.now words.items found.1.items found.0) }
 
-    // If the words legally spell a list before a rest, these are what is read.
+    // If the words legally spell a list before a rest, these are what is read, after the defaults.
     ensures answered { (l : List legal.Parsed) (rest : List (List ℕ))
         → MeansBefore (start_view begins) (declaration_of options.now) words.items l rest
         → IfOk result (λ found. IsRestOf options.now l rest found.1.items found.0) }

@@ -1,15 +1,11 @@
 -- A line is read in the same way if unread words at its end are left out.
-use Rattle.std.proofs.Common.{◌≡◌, ◌≢◌, ◌<◌, ℕ, suc, true, false, List, [], ◌∷◌, ◌++◌, length, take, Some, None, refl, sym, ap, subst, ◌∙◌, arith, inl, inr, append_assoc}
-use Rattle.std.proofs.lemmas.List.{take_all}
-use Rattle.lexopt_spec.specs.UnreadLine.{dash, no_tail, UnreadLine, pending, IsPlainFront, IsNormalIn}
+use Rattle.lexopt_options_spec.proofs.Common.{◌≡◌, ◌≢◌, ◌<◌, ℕ, suc, Bool, true, false, List, [], ◌∷◌, ◌++◌, length, take, Some, None, refl, sym, ap, subst, ◌∙◌, arith, inl, inr, append_assoc}
+use Rattle.lexopt_options_spec.proofs.Common.{take_all, dash, no_tail, UnreadLine, pending, IsPlainFront, IsNormalIn, plain_front, available, available_with, without, ValuesStep, some_values, Item}
+use Rattle.lexopt_options_spec.proofs.Common.{Table, ReadsFirst, ReadsItems, first_positional, first_flag, first_one, first_optional, first_several, option_reply, FullStep, joined_one, attached_first}
+use Rattle.lexopt_options_spec.proofs.Common.{words_alone, nothing_given, full_step, option_given}
 use Rattle.lexopt_spec.specs.Steps as steps
 use Rattle.lexopt_spec.specs.Steps.{Reply, NextStep, ValueStep, OptionalStep, ReadsShort, ReadsPositional, no_word_left, word_left, ReadsWord, no_word, reads_separator, reads_long, reads_cluster, reads_positional, joined_value, equals_value, next_in_cluster, after_separator, next_word, pending_value, takes_word, nothing_to_take, optional_pending, optional_none}
-use Rattle.lexopt_spec.specs.Views.{plain_front, available, available_with, without, ValuesStep, some_values}
 use Rattle.lexopt_spec.proofs.PlainFronts.{front_only, left_after_front}
-use Rattle.lexopt_line_spec.specs.Table.{Item, Table}
-use Rattle.lexopt_line_spec.specs.Readings.{ReadsFirst, ReadsItems, first_positional, first_flag, first_one, first_optional, first_several, option_reply}
-use Rattle.lexopt_line_spec.proofs.FullValues.{FullStep, joined_one, attached_first, words_alone, nothing_given, full_step}
-use Rattle.lexopt_line_spec.proofs.ItemsRead.{option_given}
 
 -- the line with these words instead of its own
 abbrev pub with_words : List (List ℕ) → UnreadLine → UnreadLine
@@ -42,6 +38,11 @@ empty_front [] tail is = refl
 empty_front (w ∷ left) tail is = absurd (let e : w ∷ (left ++ tail) ≡ [] = is in cc)
 
 -- ---- steps
+
+-- if no word is left, the line ends
+pub ends_here : (u : UnreadLine) (ended : Bool) → u.ended ≡ ended → u.tail ≡ no_tail → u.words ≡ [] → NextStep u steps.end u
+ends_here u true is none empty = after_separator none is (no_word_left empty refl refl)
+ends_here u false is none empty = next_word none is (no_word empty refl refl)
 
 short_cut : (bytes : List ℕ) (u v : UnreadLine) (r : Reply) (left tail : List (List ℕ)) → v.words ≡ left ++ tail → ReadsShort bytes u r v → Cut u tail (λ x. ReadsShort bytes x r (with_words left v))
 short_cut bytes u v r left tail is reads =

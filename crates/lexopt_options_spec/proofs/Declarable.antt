@@ -14,7 +14,7 @@ use Rattle.lexopt_spec.specs.UnreadLine.{equals}
 use Rattle.lexopt_line_spec.specs.Table.{Name, short, long}
 use Rattle.lexopt_line_spec.proofs.Names.{encoded}
 use Rattle.lexopt_options_spec.specs.Completion.{AreText, IsText}
-use Rattle.lexopt_options_spec.specs.Declaration.{Declared, Reason, empty_name, equals_in_name, replacement_in_name, blank_or_control_in_name, same_name, all_names, or_else, has, has_name, is_blank_or_control, is_empty, is_one_of, name_fault, names_fault, shares_name, placeholder_fault, list_fault, fault, faults, is_sound, IsFirstFault}
+use Rattle.lexopt_options_spec.specs.Declaration.{Declared, Reason, empty_name, equals_in_name, replacement_in_name, blank_or_control_in_name, same_name, all_names, or_else, has, has_name, is_blank_or_control, is_empty, is_one_of, name_fault, names_fault, shares_name, Beside, nothing, a_flag, negation, name_beside, is_flag, label_fault, bad_label, fault, faults, is_sound, IsFirstFault}
 use Rattle.lexopt_options_spec.specs.Declarable.{byte_fault, has_replacement, fault_beside, or_later, fault_from, first_fault}
 use Rattle.lexopt_options_spec.proofs.Tables.{name_refl}
 
@@ -107,12 +107,16 @@ Same others before = (f : Declared → Bool) → list_any f others ≡ list_any 
 one_more : (others before : List Declared) (o : Declared) → Same others before → Same (o ∷ others) (before ++ o ∷ [])
 one_more others before o same = λ f. ap (λ b. f o || b) (same f) ∙ or_comm (f o) (list_any f before) ∙ ap (λ b. list_any f before || b) (sym (or-false (f o))) ∙ sym (list_any-append f before (o ∷ []))
 
+same_label : (others before : List Declared) → Same others before → (b : Beside) (name : Option Name) → label_fault others b name ≡ label_fault before b name
+same_label others before same nothing name = refl
+same_label others before same (a_flag c) None = refl
+same_label others before same negation None = refl
+same_label others before same (a_flag c) (Some name) = ap (λ found. cond found None (Some bad_label)) (same (λ o. is_flag o.kind && has_name name o))
+same_label others before same negation (Some name) = ap (λ found. cond found None (Some bad_label)) (same (λ o. is_flag o.kind && has_name name o))
+
 same_fault : (others before : List Declared) (o : Declared) → ((name : Name) → has_name name o ≡ true → IsText name) → Same others before → fault_beside others o ≡ fault before o
 same_fault others before o text same =
-    ap (λ (x : Option Reason). or_else x (or_else (placeholder_fault o.kind o.placeholder) (or_else (list_fault o.words)
-    (cond (list_any (shares_name o) others) (Some same_name) None)))) (same_names (all_names o) text)
-    ∙ ap (λ (b : Bool). or_else (names_fault name_fault (all_names o)) (or_else (placeholder_fault o.kind o.placeholder) (or_else (list_fault o.words)
-    (cond b (Some same_name) None)))) (same (shares_name o))
+    rw (same_names (all_names o) text, same_label others before same o.beside (name_beside o.beside o.short_name o.long_name), same (shares_name o)) refl
 
 -- ---- the first fault
 

@@ -1,27 +1,15 @@
 -- What words mean, and where their reading stops.
-use Rattle.std.proofs.Common.{◌≡◌, ◌≤◌, ℕ, ◌+◌, suc, Bool, true, List, [], ◌∷◌, ◌++◌, map, Option, Some, None, is_none, refl, sym, ap, subst, ◌∙◌, arith, append-nil}
-use Rattle.std.specs.Option.{option_map}
-use Rattle.std.proofs.lemmas.Bool.{and_parts, false≢true}
-use Rattle.lexopt_spec.specs.UnreadLine.{IsLine, UnreadLine}
+use Rattle.lexopt_options_spec.proofs.Common.{◌≡◌, ◌≤◌, ℕ, ◌+◌, suc, Bool, true, List, [], ◌∷◌, ◌++◌, map, Option, Some, None, is_none, refl, sym, ap, subst, ◌∙◌, arith, append-nil, option_map}
+use Rattle.lexopt_options_spec.proofs.Common.{and_parts, false≢true, IsLine, UnreadLine, next, Item, Name, Table, kind, IsReading, ReadsItems, item_after, items_of_replies, option_reply, start}
+use Rattle.lexopt_options_spec.proofs.Common.{Spells, shown_spells, spelled_shows, option_reading, some_reading, says_items, says_positional, reads_last, reads_refused, step_line, said_shows}
+use Rattle.lexopt_options_spec.proofs.Common.{shown_read, shown_said, Declaration, Declared, index_of, is_sound, table, Parsed, parsed_item, positional, positional_count, positional_words, occurs}
+use Rattle.lexopt_options_spec.proofs.Common.{most, IsWithin, MeansFront, Means, are_accepted, refused_value, AreTaken, least, Mistake, ReadsUpTo, Stops, not_declared, value_of_flag, no_value}
+use Rattle.lexopt_options_spec.proofs.Common.{not_accepted, one_too_many, too_few, not_taken, not_complete, StopsAt, missing_value, unexpected_argument, unexpected_value, unknown_option}
 use Rattle.lexopt_spec.specs.Steps as steps
 use Rattle.lexopt_spec.specs.Steps.{Reply, Next}
-use Rattle.lexopt_spec.specs.Runs.{next}
 use Rattle.lexopt_line_spec.specs.Table as spec
-use Rattle.lexopt_line_spec.specs.Table.{Item, Name, Table, kind}
-use Rattle.lexopt_line_spec.specs.Readings.{IsReading, ReadsItems, item_after, items_of_replies, option_reply, start}
 use Rattle.lexopt_line_spec.specs.Speller.{IsOf}
-use Rattle.lexopt_line_spec.specs.Spelling.{Spells}
 use Rattle.lexopt_line_spec.proofs.Existence.{only_one}
-use Rattle.lexopt_line_spec.proofs.Names.{shown_spells, spelled_shows}
-use Rattle.lexopt_line_spec.proofs.OneReading.{option_reading, some_reading}
-use Rattle.lexopt_line_spec.proofs.ItemsRead.{says_items}
-use Rattle.lexopt_line_spec.proofs.ReadingSteps.{says_positional, reads_last, reads_refused}
-use Rattle.lexopt_line_spec.proofs.RunAccounts.{step_line}
-use Rattle.lexopt_line_spec.proofs.WholeLines.{said_shows, shown_read, shown_said}
-use Rattle.lexopt_options_spec.specs.Declaration.{Declaration, Declared, index_of, is_sound, table}
-use Rattle.lexopt_options_spec.specs.Legal.{Parsed, parsed_item, positional, positional_count, positional_words, occurs, most, IsWithin, MeansFront, Means, are_accepted, refused_value}
-use Rattle.lexopt_options_spec.specs.Places.{AreTaken, least}
-use Rattle.lexopt_options_spec.specs.Stops.{Mistake, ReadsUpTo, Stops, not_declared, value_of_flag, no_value, not_accepted, one_too_many, too_few, not_taken, not_complete, StopsAt, missing_value, unexpected_argument, unexpected_value, unknown_option}
 use Rattle.lexopt_options_spec.proofs.ReadItems.{ReadsAll, all_read}
 use Rattle.lexopt_options_spec.proofs.Sound.{whole_names}
 use Rattle.lexopt_options_spec.proofs.Taken.{not_both, zero_within}
@@ -40,11 +28,8 @@ nothing_read d u line = record {
 -- ---- an option by its name
 
 pub item_of : (name : Name) (replies : List Reply) → IsOf name (item_after name replies)
-item_of name [] = refl
 item_of name (steps.taken word ∷ replies) = refl
-item_of name (steps.maybe word ∷ replies) = refl
-item_of name (steps.items words ∷ replies) = refl
-item_of name (reply ∷ replies) = refl
+item_of name replies = refl
 
 pub undeclared : (options : List Declared) (name : Name) (item : Item) → IsOf name item → index_of options name ≡ None → parsed_item options item ≡ None
 undeclared options name (spec.option other value) is none = ap (option_map (λ i. _)) (ap (index_of options) is ∙ none)
@@ -100,8 +85,7 @@ ends : (d : Declaration) (words : List (List ℕ)) (before : List Parsed) (u : U
 ends d words before u read l means = later d words before l read.items means.items u read.read read.parsed means.spelled means.parsed
 
 pub above : (n k : ℕ) (limit : Option ℕ) → limit ≡ Some n → IsWithin (n + suc k) limit → ⊥
-above n k None is within = let e : None ≡ Some n = is in cc
-above n k (Some m) is within = let e : m ≡ n = (let f : Some m ≡ Some n = is in cc) in omega arith
+above n k limit is within = let over : n + suc k ≤ n = subst (IsWithin (n + suc k)) is within in omega arith
 
 -- it is a mistake before the end of a line, and not a value that is not accepted
 abbrev pub StopsEarly : Mistake → Type 0
@@ -132,10 +116,7 @@ stops_front d words before mistake u read early (one_too_many word v step limit)
     let count : positional_count l ≡ positional_count before + suc (positional_count first.0) =
     ap positional_count rest.all_are ∙ count_append before rest.later ∙ ap (λ m. positional_count before + positional_count m) first.1 ∙ ap (λ n. positional_count before + n) (omega arith) in
     above (positional_count before) (positional_count first.0) (most d.positionals) limit (subst (λ n. IsWithin n (most d.positionals)) count means.within)
-stops_front d words before mistake u read early (not_accepted s index value v more option refused) l means = early
-stops_front d words before mistake u read early (too_few v step few) l means = early
-stops_front d words before mistake u read early (not_complete index v step enough taken first) l means = early
-stops_front d words before mistake u read early (not_taken index word v step enough unfit) l means = early
+stops_front d words before mistake u read early stops l means = early
 
 -- these words mean nothing
 pub no_front : (d : Declaration) (words : List (List ℕ)) (before : List Parsed) (mistake : Mistake) → ComesTo d words before mistake → StopsEarly mistake → (l : List Parsed) → MeansFront d words l → ⊥
@@ -171,11 +152,7 @@ stops_whole d words before mistake u read (not_accepted s index value v own opti
     let more = split (parsed_item d.options) own.items r.1 (s ∷ []) rest.later own.parsed rest.are in
     let accepted : are_accepted d.options (before ++ s ∷ more.later) ≡ true = subst (λ m. are_accepted d.options m ≡ true) (rest.all_are ∙ ap (λ m. before ++ m) more.all_are) means.accepted in
     not_refused d.options before s more.later value accepted refused
-stops_whole d words before mistake u read (not_declared name v step none) l means = stops_front d words before _ u read tt (not_declared name v step none) l means.front
-stops_whole d words before mistake u read (value_of_flag option value v step) l means = stops_front d words before _ u read tt (value_of_flag option value v step) l means.front
-stops_whole d words before mistake u read (no_value name index option call v w step found due takes) l means =
-    stops_front d words before _ u read tt (no_value name index option call v w step found due takes) l means.front
-stops_whole d words before mistake u read (one_too_many word v step limit) l means = stops_front d words before _ u read tt (one_too_many word v step limit) l means.front
+stops_whole d words before mistake u read stops l means = stops_front d words before mistake u read tt stops l means.front
 
 -- words whose reading stops mean nothing
 pub nothing_parsed : (d : Declaration) (words : List (List ℕ)) (before : List Parsed) (mistake : Mistake) → StopsAt d words before mistake → (l : List Parsed) → Means d words l → ⊥

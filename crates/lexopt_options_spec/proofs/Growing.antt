@@ -1,25 +1,18 @@
 -- A line is read in the same way if more words come at its end.
-use Rattle.std.proofs.Common.{◌≡◌, ◌≢◌, ◌<◌, ℕ, Bool, true, false, not, List, [], ◌∷◌, ◌++◌, length, take, drop, Option, Some, None, refl, sym, ap, subst, ◌∙◌, inl, append_assoc, true≢false}
-use Rattle.std.proofs.lemmas.List.{append-nil}
-use Rattle.std.proofs.lemmas.List.Elements.{All-nil, All-cons, All-append}
-use Rattle.lexopt_spec.specs.UnreadLine as unread
-use Rattle.lexopt_spec.specs.UnreadLine.{dash, equals, no_tail, UnreadLine, IsLine, spelling, pending, IsPlain, IsNormalIn, IsPlainFront}
+use Rattle.lexopt_options_spec.proofs.Common.{◌≡◌, ◌≢◌, ◌<◌, ℕ, Bool, true, false, not, List, [], ◌∷◌, ◌++◌, length, take, drop, Option, Some, None, refl, sym, ap, subst, ◌∙◌, inl, append_assoc}
+use Rattle.lexopt_options_spec.proofs.Common.{true≢false, append-nil, All-nil, All-cons, All-append, dash, no_tail, UnreadLine, IsLine, spelling, pending, IsPlain, IsNormalIn, IsPlainFront}
+use Rattle.lexopt_options_spec.proofs.Common.{plain_front, available, available_with, without, ValuesStep, no_values, some_values, Step, Item, Name, short, long, flag, one, optional, several, kind}
+use Rattle.lexopt_options_spec.proofs.Common.{Table, many, ReadsFirst, ReadsItems, first_positional, first_flag, first_one, first_optional, first_several, option_reply, next_same, FullStep}
+use Rattle.lexopt_options_spec.proofs.Common.{joined_one, attached_first, words_alone, nothing_given, full_step, option_given, step_line}
 use Rattle.lexopt_spec.specs.Steps as steps
 use Rattle.lexopt_spec.specs.Steps.{Reply, Next, Value, NextStep, ValueStep, OptionalStep, ReadsShort, ReadsPositional, no_word_left, word_left, ReadsWord, no_word, reads_separator, reads_long, reads_cluster, reads_positional, joined_value, equals_value, next_in_cluster, after_separator, next_word, pending_value, takes_word, nothing_to_take, optional_pending, optional_none}
-use Rattle.lexopt_spec.specs.Views.{plain_front, available, available_with, without, ValuesStep, no_values, some_values}
 use Rattle.lexopt_spec.specs.Runs as calls
-use Rattle.lexopt_spec.specs.Runs.{Step}
 use Rattle.lexopt_spec.proofs.PlainFronts.{front-more, front-none}
 use Rattle.lexopt_line_spec.specs.Table as spec
-use Rattle.lexopt_line_spec.specs.Table.{Item, Name, short, long, flag, one, optional, several, kind, Table, many}
-use Rattle.lexopt_line_spec.specs.Readings.{ReadsFirst, ReadsItems, first_positional, first_flag, first_one, first_optional, first_several, option_reply}
-use Rattle.lexopt_line_spec.proofs.FullValues.{FullStep, joined_one, attached_first, words_alone, nothing_given, full_step}
-use Rattle.lexopt_line_spec.proofs.ItemsRead.{option_given}
 use Rattle.lexopt_line_spec.proofs.Lines.{next_line}
 use Rattle.lexopt_line_spec.proofs.OptionalLaw.{none_tail}
 use Rattle.lexopt_line_spec.proofs.ReplyKinds.{next_open}
-use Rattle.lexopt_line_spec.proofs.RunAccounts.{step_line}
-use Rattle.lexopt_options_spec.proofs.Cuts.{AllGiven, joined_given, attached_given, words_given, came_is, enough}
+use Rattle.lexopt_options_spec.proofs.Cuts.{AllGiven, joined_given, attached_given, words_given, came_is, ends_here, enough}
 
 -- the line with more words at its end
 abbrev pub longer : List (List ℕ) → UnreadLine → UnreadLine
@@ -98,16 +91,7 @@ optional_more u v word tail step = inl (more (enough OptionalStep u (steps.maybe
 -- ---- at the end of a line nothing is read
 
 pub only_end : (u v : UnreadLine) (r : Reply) → u.words ≡ [] → u.tail ≡ no_tail → NextStep u r v → r ≡ steps.end
-only_end u v r none alone (joined_value value o joins spelled r_is after) = absurd (let e : no_tail ≡ unread.joined value = sym alone ∙ joins in cc)
-only_end u v r none alone (equals_value value o joins on spelled r_is after) = absurd (let e : no_tail ≡ unread.rest (equals ∷ value) = sym alone ∙ joins in cc)
-only_end u v r none alone (next_in_cluster bytes continues other reads) = absurd (let e : no_tail ≡ unread.rest bytes = sym alone ∙ continues in cc)
-only_end u v r none alone (after_separator t ended (no_word_left empty r_is after)) = r_is
-only_end u v r none alone (after_separator t ended (word_left w ws some r_is after)) = absurd (let e : [] ≡ w ∷ ws = sym none ∙ some in cc)
-only_end u v r none alone (next_word t before (no_word empty r_is after)) = r_is
-only_end u v r none alone (next_word t before (reads_separator ws some reads)) = absurd (let e : [] ≡ _ ∷ ws = sym none ∙ some in cc)
-only_end u v r none alone (next_word t before (reads_long text name tail ws some other is_long r_is after)) = absurd (let e : [] ≡ _ ∷ ws = sym none ∙ some in cc)
-only_end u v r none alone (next_word t before (reads_cluster bytes ws some other reads)) = absurd (let e : [] ≡ _ ∷ ws = sym none ∙ some in cc)
-only_end u v r none alone (next_word t before (reads_positional w ws some plain r_is after)) = absurd (let e : [] ≡ w ∷ ws = sym none ∙ some in cc)
+only_end u v r none alone step = (next_same u r steps.end v u step (ends_here u u.ended refl alone none)).0
 
 pub no_option : (u v : UnreadLine) (name : Name) → u.words ≡ [] → u.tail ≡ no_tail → Next u (option_reply name) v → ⊥
 no_option u v name none alone step = not_at_end name (only_end u v (option_reply name) none alone (option_given u v name step))

@@ -1,37 +1,34 @@
 -- Words spell each form that a label shows.
-use Rattle.std.proofs.Common.{◌≡◌, ◌≢◌, ℕ, ◌==◌, not, Bool, true, false, cond, List, [], ◌∷◌, ◌++◌, Option, Some, None, encode_utf8, refl, sym, ap, subst, ◌∙◌, inl, inr, true≢false}
+use Rattle.std.proofs.Common.{◌≡◌, ◌≢◌, ℕ, ◌<◌, ◌==◌, ◌&&◌, not, Bool, true, false, cond, List, [], ◌∷◌, ◌++◌, Option, Some, None, codes, encode_utf8, get_or-take, length-take-le, take, suc, zero, lit<, refl, sym, ap, subst, ◌∙◌, arith, inl, inr, true≢false}
 use Rattle.std.proofs.lemmas.Bool.{eq-eqb, and_parts}
-use Rattle.std.specs.Prelude.{Contains, is_none}
-use Rattle.std.specs.List.{All, list_all}
+use Rattle.std.specs.Prelude.{Contains}
+use Rattle.std.specs.List.{All}
 use Rattle.std.proofs.lemmas.List.Elements.{All-cons, All-nil}
+use Rattle.std.proofs.lemmas.List.Folds.{Any-from_list_any}
+use Rattle.std.proofs.lemmas.Str.{IsUtf8-append, IsUtf8-from_ascii}
 use Rattle.std.specs.Char.{IsScalar}
-use Rattle.std.specs.Str.{IsUtf8}
+use Rattle.std.specs.Str.{IsAscii, IsUtf8}
 use Rattle.lexopt_spec.specs.Pieces.{replacement}
 use Rattle.lexopt_spec.specs.UnreadLine.{dash, equals, BeginsWith, IsPlain}
-use Rattle.lexopt_line_spec.specs.Table.{short, long, Name, Item, many, Kind, flag, one, optional, several, Table, kind}
+use Rattle.lexopt_line_spec.specs.Table.{short, long, Name, Item, many, option, Kind, flag, one, optional, several, Table, kind}
 use Rattle.lexopt_line_spec.specs.Spelling.{After, nothing, attached, joined, no_value, joined_value, next_word, no_optional, attached_optional, joined_optional, several_words, Completes, last_option, IsAfterLast, nothing_more, a_value, IsLong, name_alone, name_and_value, cluster, long_option, no_words, group, Spells}
 use Rattle.lexopt_line_spec.proofs.SpellerTests.{dash_first, no_equals}
-use Rattle.lexopt_options_spec.specs.Declaration.{Declared, all_names, has_name, table, Reason, is_blank_or_control, blank_or_control_in_name, dash_name, empty_name, equals_in_name, replacement_in_name, bad_placeholder, has, is_placeholder, short_fault, long_fault, name_fault, names_fault, placeholder_fault, fault, faults, is_sound}
-use Rattle.lexopt_options_spec.specs.Help.{LabelForm, short_flag, short_one, short_optional, short_optional_value, short_several, long_flag, long_one, long_optional, long_optional_value, long_several, short_word, HasTextNames}
-use Rattle.lexopt_options_spec.proofs.Tables.{IsIn, contains_in, kind_of_name, long_named, short_named}
-use Rattle.lexopt_options_spec.proofs.Sound.{names_fine, neither, no_fault}
+use Rattle.lexopt_options_spec.specs.Declaration.{Declared, all_names, has_name, table, Reason, is_blank_or_control, blank_or_control_in_name, dash_name, empty_name, equals_in_name, replacement_in_name, bad_placeholder, bad_label, has, is_placeholder, short_fault, long_fault, name_fault, placeholder_fault, label_fault, have_flag, is_flag, is_sound, Beside, a_flag, negation, name_beside, negated}
+use Rattle.lexopt_options_spec.specs.Declaration as besides
+use Rattle.lexopt_options_spec.specs.Completion.{IsText}
+use Rattle.lexopt_options_spec.specs.Help.{LabelForm, short_flag, short_one, short_optional, short_optional_value, short_several, long_flag, long_one, long_optional, long_optional_value, long_several, flag_beside, negated_flag, short_word, long_word, HasTextNames}
+use Rattle.lexopt_options_spec.proofs.Tables.{kind_of_name, long_named, short_named}
+use Rattle.lexopt_options_spec.proofs.FaultLemmas.{IsFaultless, faultless_at}
+use Rattle.lexopt_options_spec.proofs.Sound.{names_fine}
 
 -- ---- what a sound declaration means for one option
 
--- nothing is wrong with the option
-record IsFine (o : Declared) : Type 0 where
-  name_fine : (name : Name) → has_name name o ≡ true → name_fault name ≡ None
-  value_fine : placeholder_fault o.kind o.placeholder ≡ None
+-- an option of a sound list, by its place
+at_place : (options : List Declared) (o : Declared) → is_sound options ≡ true → (there : Contains options o) → IsFaultless (take there.0 options) o
+at_place options o sound there = subst (λ x. IsFaultless (take there.0 options) x) there.2 (faultless_at options there.0 o sound there.1)
 
-fine_one : (before os : List Declared) (o : Declared) → list_all is_none (faults before os) ≡ true → IsIn o os → IsFine o
-fine_one before [] o sound here = absurd here
-fine_one before (q ∷ os) o sound (inl is) =
-    let parts = and_parts (is_none (fault before q)) (list_all is_none (faults (before ++ q ∷ []) os)) sound in
-    let names = neither (names_fault name_fault (all_names q)) _ (no_fault (fault before q) parts.0) in
-    subst (λ (x : Declared). IsFine x) is (record { name_fine = λ name has. names_fine (all_names q) name names.0 has; value_fine = (neither (placeholder_fault q.kind q.placeholder) _ names.1).0 })
-fine_one before (q ∷ os) o sound (inr more) =
-    let parts = and_parts (is_none (fault before q)) (list_all is_none (faults (before ++ q ∷ []) os)) sound in
-    fine_one (before ++ q ∷ []) os o parts.1 more
+name_good : (options : List Declared) (o : Declared) → is_sound options ≡ true → Contains options o → (name : Name) → has_name name o ≡ true → name_fault name ≡ None
+name_good options o sound there name has = names_fine (all_names o) name (at_place options o sound there).names has
 
 no_dash : (c : ℕ) → short_fault c ≡ None → c ≢ dash
 no_dash c fine is =
@@ -64,15 +61,15 @@ is_value (b ∷ bs) e =
     let parts = and_parts (not (b == dash)) (not (b == equals)) e in
     record { some = λ is. cc; no_option = differs b dash parts.0; no_mark = differs b equals parts.1 }
 
-passes : (b : Bool) → cond b None (Some bad_placeholder) ≡ None → b ≡ true
-passes true e = refl
-passes false e = let f : Some bad_placeholder ≡ None = e in cc
+passes : (b : Bool) (r : Reason) → cond b None (Some r) ≡ None → b ≡ true
+passes true r e = refl
+passes false r e = let f : Some r ≡ None = e in cc
 
 value_of : (k : Kind) (value : List ℕ) → placeholder_fault k value ≡ None → k ≢ flag → IsValue value
 value_of flag value fine some = absurd (some refl)
-value_of one value fine some = is_value value (passes (is_placeholder value) fine)
-value_of optional value fine some = is_value value (passes (is_placeholder value) fine)
-value_of several value fine some = is_value value (passes (is_placeholder value) fine)
+value_of one value fine some = is_value value (passes (is_placeholder value) bad_placeholder fine)
+value_of optional value fine some = is_value value (passes (is_placeholder value) bad_placeholder fine)
+value_of several value fine some = is_value value (passes (is_placeholder value) bad_placeholder fine)
 
 one_plain : (word : List ℕ) → IsPlain false word → All (IsPlain false) (word ∷ [])
 one_plain word plain = All-cons (IsPlain false) word [] plain (All-nil (IsPlain false))
@@ -93,11 +90,46 @@ long_parsed : (t : Table) (e : Bool) (name text : List ℕ) (others : List (List
 long_parsed t e name text others after item utf8 clean behind done =
     group ((dash ∷ dash ∷ text) ∷ others) [] (item ∷ []) [] (long_option text name name after item others refl behind clean (utf8, refl) done refl) no_words
 
+-- the name of a negation is text
+no_text : (name : List ℕ) → IsUtf8 name → IsUtf8 (negated name)
+no_text name text = IsUtf8-append (codes "no-") name (IsUtf8-from_ascii (codes "no-") ascii) text
+  where
+    ascii : IsAscii (codes "no-")
+    ascii zero = lit< tt
+    ascii (suc zero) = lit< tt
+    ascii (suc (suc zero)) = lit< tt
+    ascii (suc (suc (suc i))) = lit< tt
+
+-- the word that spells a flag
+abbrev word_of : Name → List ℕ
+word_of (short c) = short_word c []
+word_of (long name) = long_word name
+
+flag_spelled : (t : Table) (e : Bool) (name : Name) → IsText name → name_fault name ≡ None → kind t name ≡ flag → Spells t e (word_of name ∷ []) (option name None ∷ [])
+flag_spelled t e (short c) text good is =
+    short_parsed t e c [] [] nothing _ text (no_dash c good) (nothing_more refl refl)
+    (subst (λ k. Completes k (short c) nothing [] (option (short c) None) []) (sym is) (no_value refl refl refl))
+flag_spelled t e (long name) text good is =
+    long_parsed t e name name [] nothing _ text (no_equals_in name good) (name_alone (some_name name good) refl refl)
+    (subst (λ k. Completes k (long name) nothing [] (option (long name) None) []) (sym is) (no_value refl refl refl))
+
+-- the flag that a label shows is among the options before
+flag_there : (before : List Declared) (b : Beside) (name : Name) → b ≢ besides.nothing → label_fault before b (Some name) ≡ None → have_flag before (Some name) ≡ true
+flag_there before besides.nothing name some none = absurd (some refl)
+flag_there before (a_flag c) name some none = passes _ bad_label none
+flag_there before negation name some none = passes _ bad_label none
+
+is_a_flag : (k : Kind) → is_flag k ≡ true → k ≡ flag
+is_a_flag flag is = refl
+is_a_flag one is = absurd (true≢false (sym is))
+is_a_flag optional is = absurd (true≢false (sym is))
+is_a_flag several is = absurd (true≢false (sym is))
+
 -- ---- the forms
 
 module _ (options : List Declared) (o : Declared) (e : Bool) (sound : is_sound options ≡ true) (there : Contains options o) (texts : HasTextNames o) where
-  fine : IsFine o
-  fine = fine_one [] options o sound (contains_in options o there)
+  fine : (name : Name) → has_name name o ≡ true → name_fault name ≡ None
+  fine = name_good options o sound there
 
   short_kind : (c : ℕ) (k : Kind) → o.short_name ≡ Some c → o.kind ≡ k → kind (table options) (short c) ≡ k
   short_kind c k named is = kind_of_name options o sound there (short c) (short_named o c named) ∙ is
@@ -106,24 +138,24 @@ module _ (options : List Declared) (o : Declared) (e : Bool) (sound : is_sound o
   long_kind name k named is = kind_of_name options o sound there (long name) (long_named o name named) ∙ is
 
   value : (k : Kind) → o.kind ≡ k → k ≢ flag → IsValue o.placeholder
-  value k is some = value_of o.kind o.placeholder fine.value_fine (λ none. some (sym is ∙ none))
+  value k is some = value_of o.kind o.placeholder (at_place options o sound there).value (λ none. some (sym is ∙ none))
 
   -- a character, and what comes after it
   short_form : (c : ℕ) (k : Kind) (bytes : List ℕ) (others : List (List ℕ)) (after : After) (item : Item) → o.short_name ≡ Some c → o.kind ≡ k → IsAfterLast e bytes after
       → Completes k (short c) after others item [] → Spells (table options) e (short_word c bytes ∷ others) (item ∷ [])
   short_form c k bytes others after item named is behind done =
-      short_parsed (table options) e c bytes others after item (texts.short_scalar c named) (no_dash c (fine.name_fine (short c) (short_named o c named))) behind
+      short_parsed (table options) e c bytes others after item (texts.short_scalar c named) (no_dash c (fine (short c) (short_named o c named))) behind
       (subst (λ (x : Kind). Completes x (short c) after others item []) (sym (short_kind c k named is)) done)
 
   -- a long name, and what comes after it
   long_form : (name : List ℕ) (k : Kind) (text : List ℕ) (others : List (List ℕ)) (after : After) (item : Item) → o.long_name ≡ Some name → o.kind ≡ k → IsLong text name after
       → Completes k (long name) after others item [] → Spells (table options) e ((dash ∷ dash ∷ text) ∷ others) (item ∷ [])
   long_form name k text others after item named is behind done =
-      long_parsed (table options) e name text others after item (texts.long_text name named) (no_equals_in name (fine.name_fine (long name) (long_named o name named))) behind
+      long_parsed (table options) e name text others after item (texts.long_text name named) (no_equals_in name (fine (long name) (long_named o name named))) behind
       (subst (λ (x : Kind). Completes x (long name) after others item []) (sym (long_kind name k named is)) done)
 
   alone : (name : List ℕ) → o.long_name ≡ Some name → IsLong name name nothing
-  alone name named = name_alone (some_name name (fine.name_fine (long name) (long_named o name named))) refl refl
+  alone name named = name_alone (some_name name (fine (long name) (long_named o name named))) refl refl
 
   attached_here : (k : Kind) → o.kind ≡ k → k ≢ flag → IsAfterLast e o.placeholder (attached o.placeholder)
   attached_here k is some = let v = value k is some in a_value v.some (λ mark. v.no_mark mark.1) refl
@@ -132,6 +164,17 @@ module _ (options : List Declared) (o : Declared) (e : Bool) (sound : is_sound o
   only_value is =
       several_words (o.placeholder ∷ []) refl
       (record { words_are = refl; plain = one_plain o.placeholder (inr (inr ((value several is (λ same. cc)).no_option))); longest = λ none. none }) (λ same. cc) refl
+
+  -- the flag that the label shows
+  flag_form : (name : Name) → name_beside o.beside o.short_name o.long_name ≡ Some name → o.beside ≢ besides.nothing → IsText name → Spells (table options) e (word_of name ∷ []) (option name None ∷ [])
+  flag_form name is some text =
+      let before = take there.0 options in
+      let among = flag_there before o.beside name some (subst (λ n. label_fault before o.beside n ≡ None) is (at_place options o sound there).label) in
+      let found = Any-from_list_any (λ q. is_flag q.kind && has_name name q) before among in
+      let parts = and_parts (is_flag found.1.kind) (has_name name found.1) found.4 in
+      let less : found.0 < there.0 = (let all = length-take-le there.0 options (omega (arith, there.1)) in omega (arith, found.2, all)) in
+      let within : Contains options found.1 = (found.0, omega (arith, there.1, less), sym (get_or-take there.0 options found.0 found.1 less) ∙ found.3) in
+      flag_spelled (table options) e name text (name_good options found.1 sound within name parts.1) (kind_of_name options found.1 sound within name parts.1 ∙ is_a_flag found.1.kind parts.0)
 
   pub form_spelled : (shown : List ℕ) (words : List (List ℕ)) (item : Item) → LabelForm o shown words item → Spells (table options) e words (item ∷ [])
   form_spelled shown words item (short_flag c named is) =
@@ -155,3 +198,7 @@ module _ (options : List Declared) (o : Declared) (e : Bool) (sound : is_sound o
       long_form name optional (name ++ equals ∷ o.placeholder) [] (joined o.placeholder) _ named is (name_and_value o.placeholder refl refl) (joined_optional o.placeholder refl refl refl)
   form_spelled shown words item (long_several name named is) =
       long_form name several name (o.placeholder ∷ []) nothing _ named is (alone name named) (only_value is)
+  form_spelled shown words item (flag_beside c name is none named) =
+      flag_form (short c) (rw (is, none, named) refl) (λ same. cc) (texts.beside_scalar c is)
+  form_spelled shown words item (negated_flag name is named) =
+      flag_form (long (negated name)) (rw (is, named) refl) (λ same. cc) (no_text name (texts.long_text name named))

@@ -1,3 +1,4 @@
+pub mod Common
 pub mod Lists
 pub mod Listed
 pub mod Texts
@@ -26,3 +27,4 @@ pub mod Shares
 pub mod Roles
 pub mod States
 pub mod Reached
+pub mod Defaults

@@ -1,30 +1,22 @@
 -- Values that options accept.
-use Rattle.std.proofs.Common.{◌≡◌, ◌==◌, ℕ, Bool, true, false, not, List, [], ◌∷◌, ◌++◌, position, Some, None, is_none, cond, option_and_then, slice_get, unwrap_or, refl, sym, ap, ◌∙◌}
-use Rattle.std.specs.List.{list_all, list_any}
-use Rattle.std.specs.Option.{option_map}
-use Rattle.std.proofs.lemmas.Bool.{and_parts, and_from, not-true, or_left, false≢true, eq-eqb}
-use Rattle.lexopt_spec.specs.UnreadLine.{dash, equals, BeginsWith}
-use Rattle.lexopt_options_spec.specs.Declaration.{Declared, Reason, Words, accepts, files, directories, text, listed, bad_list, is_blank_or_control, is_listable, is_placeholder, is_sound, list_fault, all_names, name_fault, names_fault, placeholder_fault}
+use Rattle.lexopt_options_spec.proofs.Common.{◌≡◌, ◌==◌, ℕ, Bool, true, false, not, List, [], ◌∷◌, ◌++◌, position, Some, None, is_none, cond, option_and_then, slice_get, unwrap_or, refl, sym, ap, ◌∙◌}
+use Rattle.lexopt_options_spec.proofs.Common.{list_all, list_any, option_map, and_parts, and_from, not-true, or_left, false≢true, eq-eqb, dash, equals, BeginsWith, Declared, Reason, Words, accepts}
+use Rattle.lexopt_options_spec.proofs.Common.{listed, bad_list, is_blank_or_control, is_listable, is_placeholder, is_sound, list_fault, all_names, name_fault, names_fault, placeholder_fault}
 use Rattle.lexopt_options_spec.specs.Legal.{Parsed, option, several, accepts_at, are_accepted, refused_value}
-use Rattle.lexopt_options_spec.proofs.Sound.{neither, none_wrong}
+use Rattle.lexopt_options_spec.proofs.Sound.{none_wrong}
 use Rattle.lexopt_options_spec.proofs.Tables.{pointwise_refl}
 
 -- ---- a value for each option
 
 -- the first word of the list, or the empty word
 abbrev pub value_for : Words → List ℕ
-value_for files = []
-value_for directories = []
-value_for text = []
-value_for (listed []) = []
 value_for (listed (value ∷ values)) = value
+value_for words = []
 
 pub value_fits : (words : Words) → list_fault words ≡ None → accepts words (value_for words) ≡ true
-value_fits files none = refl
-value_fits directories none = refl
-value_fits text none = refl
 value_fits (listed []) none = absurd (let e : Some bad_list ≡ None = none in cc)
 value_fits (listed (value ∷ values)) none = or_left _ _ (pointwise_refl value)
+value_fits words none = refl
 
 only_none : (b : Bool) (r : Reason) → cond b None (Some r) ≡ None → b ≡ true
 only_none true r none = refl
@@ -38,19 +30,15 @@ not_dashed (b ∷ bs) is begins =
     false≢true (sym (not-true (b == dash) first.0) ∙ eq-eqb b dash begins)
 
 pub value_plain : (words : Words) → list_fault words ≡ None → ¬ BeginsWith dash (value_for words)
-value_plain files none begins = begins
-value_plain directories none begins = begins
-value_plain text none begins = begins
-value_plain (listed []) none begins = begins
 value_plain (listed (value ∷ values)) none begins =
     let all = only_none (list_all is_listable (value ∷ values)) bad_list none in
     let parts = and_parts (is_listable value) (list_all is_listable values) all in
     not_dashed value parts.0 begins
+value_plain words none begins = begins
 
 pub list_good : (options : List Declared) (i : ℕ) (o : Declared) → is_sound options ≡ true → slice_get options i ≡ Some o → list_fault o.words ≡ None
 list_good options i o sound at =
-    let later = (neither (names_fault name_fault (all_names o)) _ (none_wrong options i o sound at)).1 in
-    (neither (list_fault o.words) _ (neither (placeholder_fault o.kind o.placeholder) _ later).1).0
+    (none_wrong options i o sound at).words
 
 -- ---- what is accepted
 

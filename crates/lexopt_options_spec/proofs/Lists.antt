@@ -1,21 +1,22 @@
 -- Lists of what is read.
-use Rattle.std.proofs.Common.{◌≡◌, ◌+◌, List, [], ◌∷◌, ◌++◌, map, Option, Some, None, refl, sym, ap, ◌∙◌, arith}
-use Rattle.std.proofs.lemmas.List.{map-append}
-use Rattle.std.proofs.lemmas.Option.{same_Some}
-use Rattle.lexopt_options_spec.specs.Legal.{Parsed, positional_count}
+use Rattle.lexopt_options_spec.proofs.Common.{◌≡◌, ◌+◌, List, [], ◌∷◌, ◌++◌, map, Option, Some, None, refl, sym, ap, ◌∙◌, arith, filter_map, append_cancel_left}
+use Rattle.lexopt_options_spec.proofs.Common.{map-append, map_push, filter_map-append, same_Some, Parsed, positional_count}
+pub use Rattle.std.proofs.lemmas.List.{same_from_push as same_last}
 
 pub first_same : {X : Type 0} (x y : X) (xs ys : List X) → x ∷ xs ≡ y ∷ ys → (x ≡ y) × (xs ≡ ys)
 first_same x y xs ys is = (cc, cc)
 
+-- the elements that there are
+abbrev those : {X : Type 0} → List (Option X) → List X
+those l = filter_map (λ o. o) l
+
+all_there : {X : Type 0} (l : List X) → those (map (λ x. Some x) l) ≡ l
+all_there [] = refl
+all_there (x ∷ l) = ap (λ m. x ∷ m) (all_there l)
+
 -- if all elements are the same, each is
 pub same_somes : {X : Type 0} (l m : List X) → map (λ x. Some x) l ≡ map (λ x. Some x) m → l ≡ m
-same_somes [] [] is = refl
-same_somes {X} [] (y ∷ ys) is = let e : [] ≡ Some y ∷ map (λ x. Some x) ys = is in cc
-same_somes {X} (x ∷ xs) [] is = let e : Some x ∷ map (λ x. Some x) xs ≡ [] = is in cc
-same_somes (x ∷ xs) (y ∷ ys) is =
-    let parts = first_same (Some x) (Some y) (map (λ x. Some x) xs) (map (λ x. Some x) ys) is in
-    let one = same_Some x y parts.0 in
-    ap (λ z. z ∷ xs) one ∙ ap (λ zs. y ∷ zs) (same_somes xs ys parts.1)
+same_somes l m is = sym (all_there l) ∙ ap those is ∙ all_there m
 
 -- a list whose first elements are known
 pub record Later {X Y : Type 0} (f : X → Option Y) (ys : List X) (before all : List Y) : Type 0 where
@@ -25,19 +26,16 @@ pub record Later {X Y : Type 0} (f : X → Option Y) (ys : List X) (before all :
 
 pub split : {X Y : Type 0} (f : X → Option Y) (xs ys : List X) (before all : List Y) → map f xs ≡ map (λ y. Some y) before → map f (xs ++ ys) ≡ map (λ y. Some y) all
     → Later f ys before all
-split f [] ys [] all is whole = record { later = all; all_are = refl; are = whole }
-split f [] ys (b ∷ bs) all is whole = absurd (let e : [] ≡ Some b ∷ map (λ y. Some y) bs = is in cc)
-split f (x ∷ xs) ys [] all is whole = absurd (let e : f x ∷ map f xs ≡ [] = is in cc)
-split f (x ∷ xs) ys (b ∷ bs) [] is whole = absurd (let e : f x ∷ map f (xs ++ ys) ≡ [] = whole in cc)
-split f (x ∷ xs) ys (b ∷ bs) (a ∷ all) is whole =
-    let p = first_same (f x) (Some b) (map f xs) (map (λ y. Some y) bs) is in
-    let q = first_same (f x) (Some a) (map f (xs ++ ys)) (map (λ y. Some y) all) whole in
-    let rest = split f xs ys bs all p.1 q.1 in
-    let same = same_Some a b (sym q.0 ∙ p.0) in
+split f xs ys before all is whole =
+    let both = ap (λ l. l ++ map f ys) (sym is) ∙ sym (map-append f xs ys) ∙ whole in
+    let later = those (map f ys) in
+    let apart = filter_map-append (λ o. o) (map (λ y. Some y) before) (map f ys) ∙ ap (λ l. l ++ later) (all_there before) in
+    let all_are = sym (all_there all) ∙ ap those (sym both) ∙ apart in
     record {
-      later = rest.later;
-      all_are = ap (λ z. z ∷ all) same ∙ ap (λ l. b ∷ l) rest.all_are;
-      are = rest.are;
+      later = later;
+      all_are = all_are;
+      are = append_cancel_left (map (λ y. Some y) before) (map f ys) (map (λ y. Some y) later)
+          (both ∙ ap (map (λ y. Some y)) all_are ∙ map-append (λ y. Some y) before later);
     }
 
 -- two lists, one after the other
@@ -70,20 +68,11 @@ pub count_append : (l m : List Parsed) → positional_count (l ++ m) ≡ positio
 count_append [] m = omega arith
 count_append (s ∷ l) m = let rest = count_append l m in omega arith
 
--- ---- lists with the same last element
+-- ---- lists with an element
 
-pub no_last : {X : Type 0} (l : List X) (x : X) → [] ≡ l ++ x ∷ [] → ⊥
-no_last [] x is = let e : [] ≡ x ∷ [] = is in cc
-no_last (y ∷ l) x is = let e : [] ≡ y ∷ (l ++ x ∷ []) = is in cc
-
-pub same_last : {X : Type 0} (l m : List X) (x y : X) → l ++ x ∷ [] ≡ m ++ y ∷ [] → (l ≡ m) × (x ≡ y)
-same_last [] [] x y is = (refl, (first_same x y [] [] is).0)
-same_last {X} [] (b ∷ m) x y is = absurd (no_last m y (first_same x b [] (m ++ y ∷ []) is).1)
-same_last {X} (a ∷ l) [] x y is = absurd (no_last l x (sym (first_same a y (l ++ x ∷ []) [] is).1))
-same_last (a ∷ l) (b ∷ m) x y is =
-    let p = first_same a b (l ++ x ∷ []) (m ++ y ∷ []) is in
-    let q = same_last l m x y p.1 in
-    (ap (λ z. z ∷ l) p.0 ∙ ap (λ zs. b ∷ zs) q.0, q.1)
+pub not_empty : {X : Type 0} (l m : List X) (x : X) → l ++ x ∷ m ≡ [] → ⊥
+not_empty [] m x is = let e : x ∷ m ≡ [] = is in cc
+not_empty (y ∷ l) m x is = let e : y ∷ (l ++ x ∷ m) ≡ [] = is in cc
 
 -- a list is empty or has a last element
 pub data Ending {X : Type 0} (l : List X) : Type 0 where
@@ -97,3 +86,15 @@ ending (x ∷ l) = more (ending l)
     more : Ending l → Ending (x ∷ l)
     more (has_none is) = has_last [] x (ap (λ m. x ∷ m) is)
     more (has_last front y is) = has_last (x ∷ front) y (ap (λ m. x ∷ m) is)
+
+-- the last thing that is read is the last of these items
+pub last_item : {X Y : Type 0} (f : X → Option Y) (items : List X) (before : List Y) (last : Y) → map f items ≡ map (λ s. Some s) (before ++ last ∷ [])
+    → (front : List X) × (x : X) × (items ≡ front ++ x ∷ []) × (f x ≡ Some last) × (map f front ≡ map (λ s. Some s) before)
+last_item {X} f items before last is = by (ending items)
+  where
+    by : Ending items → (front : List X) × (x : X) × (items ≡ front ++ x ∷ []) × (f x ≡ Some last) × (map f front ≡ map (λ s. Some s) before)
+    by (has_none none) = absurd (not_empty (map (λ s. Some s) before) [] (Some last) (sym (map_push (λ s. Some s) before last) ∙ sym is ∙ ap (map f) none))
+    by (has_last front x are) =
+        let both = sym (map_push f front x) ∙ ap (map f) (sym are) ∙ is ∙ map_push (λ s. Some s) before last in
+        let same = same_last (map f front) (map (λ s. Some s) before) (f x) (Some last) both in
+        (front, x, are, same.1, same.0)

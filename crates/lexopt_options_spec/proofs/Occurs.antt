@@ -1,20 +1,15 @@
 -- Where an option can come.
-use Rattle.std.proofs.lemmas.Bool.{and_from, eq-eqb, false≢true, or_right}
-use Rattle.std.proofs.lemmas.List.{append-nil}
-use Rattle.std.proofs.lemmas.Option.{get_or_from_slice_get, slice_get_within}
-use Rattle.std.proofs.Common.{◌≡◌, ◌≢◌, ◌<◌, ◌≤◌, ◌+◌, ◌||◌, is_none, ℕ, zero, suc, Bool, true, false, List, [], ◌∷◌, ◌++◌, map, length, slice_get, slice_index_or, Some, None, encode_utf8, refl, sym, ap, subst, ◌∙◌, arith, inr, length-append}
+use Rattle.lexopt_options_spec.proofs.Common.{and_from, eq-eqb, false≢true, or_right, append-nil, get_or_from_slice_get, slice_get_within, ◌≡◌, ◌≢◌, ◌<◌, ◌≤◌, ◌+◌, ◌||◌, is_none, ℕ, zero, suc, Bool}
+use Rattle.lexopt_options_spec.proofs.Common.{true, false, List, [], ◌∷◌, ◌++◌, map, length, slice_get, slice_index_or, Some, None, encode_utf8, refl, sym, ap, subst, ◌∙◌, arith, inr, length-append}
+use Rattle.lexopt_options_spec.proofs.Common.{option_map, dash, BeginsWith, IsPlain, IsNormalIn, Name, short, long, Item, Kind, flag, one, optional, several, kind, Table, Declaration, Declared}
+use Rattle.lexopt_options_spec.proofs.Common.{has_name, index_of, is_sound, table, AreTaken, least, CanBeTaken}
 use Rattle.std.specs.Char.{IsScalar}
-use Rattle.std.specs.Option.{option_map}
-use Rattle.lexopt_spec.specs.UnreadLine.{dash, BeginsWith, IsPlain, IsNormalIn}
 use Rattle.lexopt_line_spec.specs.Table as spec
-use Rattle.lexopt_line_spec.specs.Table.{Name, short, long, Item, Kind, flag, one, optional, several, kind, Table}
 use Rattle.lexopt_line_spec.specs.Spelling as lines
 use Rattle.lexopt_line_spec.specs.Spelling.{exact, nothing, Completes, no_value, no_optional, next_word, several_words, Group, cluster, last_option, nothing_more, name_alone, Line, group, separator}
 use Rattle.lexopt_line_spec.proofs.SpellerTests.{dash_first, some_bytes}
 use Rattle.lexopt_line_spec.proofs.SpellerSound.{not_plain}
-use Rattle.lexopt_options_spec.specs.Declaration.{Declaration, Declared, has_name, index_of, is_sound, table}
 use Rattle.lexopt_options_spec.specs.Legal.{Parsed, option, several, positional, parsed_item, positional_count, positional_words, most, IsWithin, MeansFront, accepts_at, are_accepted, is_required, occurs, refused_value}
-use Rattle.lexopt_options_spec.specs.Places.{AreTaken, least}
 use Rattle.lexopt_options_spec.specs.Legal as legal
 use Rattle.lexopt_options_spec.specs.Completion.{spelling, AreText, IsOption, IsOpen, IsText, CanOccur}
 use Rattle.lexopt_options_spec.proofs.Fronts.{same_parsed}
@@ -23,7 +18,6 @@ use Rattle.lexopt_options_spec.proofs.Listed.{accepted_append, accepted_front, a
 use Rattle.lexopt_options_spec.proofs.Sound.{IsGoodName, found, good, option_there}
 use Rattle.lexopt_options_spec.proofs.Tables.{index_there, kind_of_name}
 use Rattle.lexopt_options_spec.proofs.Taken.{AreFilled, can_be_taken, words_append, words_count, words_same}
-use Rattle.lexopt_options_spec.specs.Completion.{CanBeTaken}
 use Rattle.lexopt_options_spec.proofs.OpenLines.{OpenLine, Parts, open_to_the_end, past_separator, dashes, continues, parts}
 
 -- ---- words that are not values
@@ -41,16 +35,14 @@ dashes_calm rest = not_plain (dash ∷ []) (λ same. let e : dash ∷ [] ≡ [] 
 -- ---- a single option, with this word as its value
 
 values_of : Kind → List ℕ → List (List ℕ)
-values_of flag v = []
 values_of one v = v ∷ []
-values_of optional v = []
 values_of several v = v ∷ []
+values_of k v = []
 
 item_for : Kind → List ℕ → Name → Item
-item_for flag v name = spec.option name None
 item_for one v name = spec.option name (Some v)
-item_for optional v name = spec.option name None
 item_for several v name = spec.many name (v ∷ [])
+item_for k v name = spec.option name None
 
 one_plain : (v : List ℕ) → ¬ BeginsWith dash v → (k : ℕ) (d : List ℕ) → k < 1 → IsPlain false (slice_index_or (v ∷ []) k d)
 one_plain v plain zero d within = inr (inr plain)
@@ -83,29 +75,24 @@ spelled_line t on name v tail items text is plain calm line =
 -- ---- what is read of the option
 
 parsed_for : ℕ → Kind → List ℕ → Parsed
-parsed_for i flag v = option i None
 parsed_for i one v = option i (Some v)
-parsed_for i optional v = option i None
 parsed_for i several v = several i (v ∷ [])
+parsed_for i k v = option i None
 
 is_parsed : (options : List Declared) (name : Name) (i : ℕ) (k : Kind) (v : List ℕ) → index_of options name ≡ Some i → parsed_item options (item_for k v name) ≡ Some (parsed_for i k v)
 unfolding item_for parsed_for
-is_parsed options name i flag v found = ap (option_map (λ j. option j None)) found
 is_parsed options name i one v found = ap (option_map (λ j. option j (Some v))) found
-is_parsed options name i optional v found = ap (option_map (λ j. option j None)) found
 is_parsed options name i several v found = ap (option_map (λ j. several j (v ∷ []))) found
+is_parsed options name i k v found = ap (option_map (λ j. option j None)) found
 
 is_option : (i : ℕ) (k : Kind) (v : List ℕ) → IsOption i (parsed_for i k v)
 unfolding parsed_for
-is_option i flag v = refl
 is_option i one v = refl
-is_option i optional v = refl
-is_option i several v = refl
+is_option i k v = refl
 
 words_none : (i : ℕ) (s : Parsed) (l : List Parsed) → IsOption i s → positional_words (s ∷ l) ≡ positional_words l
-words_none i (option j v) l is = refl
-words_none i (several j vs) l is = refl
 words_none i (positional w) l is = absurd is
+words_none i s l is = refl
 
 occurs_once : (i : ℕ) (s : Parsed) (l : List Parsed) → IsOption i s → occurs i (s ∷ l) ≡ true
 occurs_once i (option j v) l is = ap (λ b. b || occurs i l) (eq-eqb j i is)
@@ -115,10 +102,9 @@ occurs_once i (positional w) l is = absurd is
 -- its option accepts the value
 accepted_one : (options : List Declared) (i : ℕ) (k : Kind) (v : List ℕ) → accepts_at options i v ≡ true → refused_value options (parsed_for i k v) ≡ None
 unfolding parsed_for
-accepted_one options i flag v is = refl
 accepted_one options i one v is = one_accepted options i v is
-accepted_one options i optional v is = refl
 accepted_one options i several v is = single_accepted options i v is
+accepted_one options i k v is = refl
 
 accepted_more : (options : List Declared) (i : ℕ) (k : Kind) (v : List ℕ) (l : List Parsed) → accepts_at options i v ≡ true → are_accepted options l ≡ true → are_accepted options (parsed_for i k v ∷ l) ≡ true
 accepted_more options i k v l is rest = and_from _ _ (ap is_none (accepted_one options i k v is)) rest

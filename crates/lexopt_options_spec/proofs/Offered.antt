@@ -1,15 +1,11 @@
 -- Which spellings there are, and which are offered.
-use Rattle.std.proofs.Common.{◌≡◌, ◌<◌, ◌==◌, ℕ, zero, suc, Bool, not, true, false, ◌||◌, ◌&&◌, ◌⊎◌, ◌+◌, List, [], ◌∷◌, filter, length, nat_eq, Some, None, if◌then◌else◌, refl, sym, ap, subst, ◌∙◌, arith, inl, inr, ⊎_elim}
+use Rattle.lexopt_options_spec.proofs.Common.{◌≡◌, ◌<◌, ◌==◌, ℕ, zero, suc, Bool, not, true, false, ◌||◌, ◌&&◌, ◌⊎◌, ◌+◌, List, [], ◌∷◌, filter, length, nat_eq, Some, None, if◌then◌else◌, refl, sym}
+use Rattle.lexopt_options_spec.proofs.Common.{ap, subst, ◌∙◌, arith, inl, inr, ⊎_elim, Contains, list_any, starts_with, position_or_len, eq-eqb, false≢true, lt-ltb, or_left, or_right}
+use Rattle.lexopt_options_spec.proofs.Common.{Contains-append_left, Contains-append_right, Contains-append_cases, Name, Declaration, Declared, has_name, index_of, is_name, is_one_of, is_sound}
+use Rattle.lexopt_options_spec.proofs.Common.{names_of, Parsed, are_accepted, positional_words}
 use Rattle.std.specs.Cmp.Lexicographic.{pointwise, same_text}
-use Rattle.std.specs.List.{Contains, list_any, starts_with}
-use Rattle.std.specs.List.{position_or_len}
 use Rattle.std.specs.Str.{IsUtf8}
-use Rattle.std.proofs.lemmas.Bool.{eq-eqb, false≢true, lt-ltb, or_left, or_right}
 use Rattle.std.proofs.lemmas.List.Folds.{list_any-append}
-use Rattle.std.proofs.lemmas.List.Elements.{Contains-append_left, Contains-append_right, Contains-append_cases}
-use Rattle.lexopt_line_spec.specs.Table.{Name}
-use Rattle.lexopt_options_spec.specs.Declaration.{Declaration, Declared, has_name, index_of, is_name, is_one_of, is_sound, names_of}
-use Rattle.lexopt_options_spec.specs.Legal.{Parsed, are_accepted, positional_words}
 use Rattle.lexopt_options_spec.specs.Completion.{AreText, CanOccur, Completes, IsOpen, Spelled, is_offered, spelled, spelled_by, spelling, spellings, texts}
 use Rattle.lexopt_options_spec.proofs.Sound.{found, either}
 use Rattle.lexopt_options_spec.proofs.Tables.{name_is, name_refl, pointwise_refl}

@@ -6,8 +6,8 @@ use Rattle.std.proofs.lemmas.List.Sums.{sum_by-append}
 use Rattle.std.proofs.Math.Seq.{take-append_seam}
 use Rattle.std.specs.Prelude.{Contains}
 use Rattle.std.specs.List.{AllZip, concat, flat_map, sum_by}
-use Rattle.lexopt_options_spec.specs.Declaration.{Declared, Declaration, Positional}
-use Rattle.lexopt_options_spec.specs.Help.{columns, help_column, blanks, Line, line_columns, Fits, AllFit, AreFull, Wraps, below, gap, entry, label, words_of, heading_lines, option_text, options_part, positional_text, IsEntry, IsOption, IsUsage, IsUsageLine, IsParagraph, IsHelp, first_usage, usage_column, paragraph, described, visible, set_apart, line_feed}
+use Rattle.lexopt_options_spec.specs.Declaration.{Declared, Declaration, Detail, Positional}
+use Rattle.lexopt_options_spec.specs.Help.{columns, help_column, blanks, Line, line_columns, Fits, AllFit, AreFull, Wraps, below, gap, entry, label, words_of, heading_lines, option_text, options_part, positional_text, IsEntry, IsOption, IsUsage, IsUsageLine, IsParagraph, IsHelp, first_usage, usage_column, paragraph, described, entered, set_apart, shown_epilogue, line_feed}
 use Rattle.lexopt_options_spec.proofs.Wrapping.{some_wrapping}
 
 abbrev words_in : List Line → List (List ℕ)
@@ -76,8 +76,8 @@ one_entry : (width : ℕ) (shown help s t : List ℕ) → IsEntry width shown he
 one_entry width shown help s t a b =
     a.written ∙ ap (entry (help_column width) shown) (same_lines (width - help_column width) (words_of help) a.lines b.lines a.wrapped b.wrapped) ∙ sym b.written
 
-one_option : (width : ℕ) (o : Declared) (s t : List ℕ) → IsOption width o s → IsOption width o t → s ≡ t
-one_option width o s t a b = a.written ∙ ap (λ l. heading_lines o.heading ++ l) (one_entry width (label o) (option_text o) a.own b.own a.is_entry b.is_entry) ∙ sym b.written
+one_option : (detail : Detail) (width : ℕ) (o : Declared) (s t : List ℕ) → IsOption detail width o s → IsOption detail width o t → s ≡ t
+one_option detail width o s t a b = a.written ∙ ap (λ l. heading_lines o.heading ++ l) (one_entry width (label o) (option_text detail o) a.own b.own a.is_entry b.is_entry) ∙ sym b.written
 
 one_paragraph : (width : ℕ) (content s t : List ℕ) → IsParagraph width content s → IsParagraph width content t → s ≡ t
 one_paragraph width content s t a b = a.written ∙ ap paragraph (same_lines width (words_of content) a.lines b.lines a.wrapped b.wrapped) ∙ sym b.written
@@ -97,13 +97,13 @@ one_usage d width s t a b =
     let others = same_texts (λ own. IsUsageLine width (d.program ∷ words_of own)) (λ own. one_usage_line width (d.program ∷ words_of own)) (drop 1 d.usage) a.others b.others a.other_lines b.other_lines in
     cc (a.written, b.written)
 
-pub one_help : (d : Declaration) (width : ℕ) (s t : List ℕ) → IsHelp d width s → IsHelp d width t → s ≡ t
-one_help d width s t a b =
+pub one_help : (detail : Detail) (d : Declaration) (width : ℕ) (s t : List ℕ) → IsHelp detail d width s → IsHelp detail d width t → s ≡ t
+one_help detail d width s t a b =
     let usage = one_usage d width a.usage b.usage a.usage_first b.usage_first in
     let about = one_paragraph width d.about a.about b.about a.about_next b.about_next in
     let positionals = same_texts (λ (p : Positional). IsEntry width p.placeholder (positional_text p)) (λ p. one_entry width p.placeholder (positional_text p)) (described d.positionals) a.positionals b.positionals a.each_positional b.each_positional in
-    let options = same_texts (IsOption width) (one_option width) (visible d.options) a.options b.options a.each_option b.each_option in
-    let epilogue = same_texts (IsParagraph width) (one_paragraph width) d.epilogue a.epilogue b.epilogue a.each_paragraph b.each_paragraph in
+    let options = same_texts (IsOption detail width) (one_option detail width) (entered d.options) a.options b.options a.each_option b.each_option in
+    let epilogue = same_texts (IsParagraph width) (one_paragraph width) (shown_epilogue detail d.epilogue) a.epilogue b.epilogue a.each_paragraph b.each_paragraph in
     cc (a.written, b.written)
 
 -- ---- a declaration has a help
@@ -118,9 +118,9 @@ some_entry width shown help =
     let w = some_wrapping (width - help_column width) (words_of help) in
     (entry (help_column width) shown w.0, record { lines = w.0; wrapped = w.1; written = refl })
 
-some_option : (width : ℕ) (o : Declared) → (text : List ℕ) × IsOption width o text
-some_option width o =
-    let e = some_entry width (label o) (option_text o) in
+some_option : (detail : Detail) (width : ℕ) (o : Declared) → (text : List ℕ) × IsOption detail width o text
+some_option detail width o =
+    let e = some_entry width (label o) (option_text detail o) in
     (heading_lines o.heading ++ e.0, record { own = e.0; is_entry = e.1; written = refl })
 
 some_paragraph : (width : ℕ) (content : List ℕ) → (text : List ℕ) × IsParagraph width content text
@@ -144,13 +144,13 @@ some_usage d width =
       record { first = f.0; others = os.0; first_line = f.1; other_lines = os.1; written = refl },
     )
 
-pub some_help : (d : Declaration) (width : ℕ) → (text : List ℕ) × IsHelp d width text
-some_help d width =
+pub some_help : (detail : Detail) (d : Declaration) (width : ℕ) → (text : List ℕ) × IsHelp detail d width text
+some_help detail d width =
     let u = some_usage d width in
     let a = some_paragraph width d.about in
     let ps = some_texts (λ (p : Positional). IsEntry width p.placeholder (positional_text p)) (λ p. some_entry width p.placeholder (positional_text p)) (described d.positionals) in
-    let os = some_texts (IsOption width) (some_option width) (visible d.options) in
-    let es = some_texts (IsParagraph width) (some_paragraph width) d.epilogue in (
+    let os = some_texts (IsOption detail width) (some_option detail width) (entered d.options) in
+    let es = some_texts (IsParagraph width) (some_paragraph width) (shown_epilogue detail d.epilogue) in (
       u.0 ++ a.0 ++ set_apart (concat ps.0) ++ options_part (concat os.0) ++ flat_map set_apart es.0,
       record {
         usage = u.0;

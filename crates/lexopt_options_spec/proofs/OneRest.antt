@@ -1,38 +1,28 @@
 -- Words have one rest, and what is read of them before it is what the front says.
-use Rattle.std.proofs.Common.{◌≡◌, ◌≢◌, ◌≤◌, ◌+◌, ◌⊎◌, ℕ, Bool, true, false, List, [], ◌∷◌, ◌++◌, length, map, Option, Some, None, refl, sym, ap, subst, ◌∙◌, inl, inr, ⊎_elim, append-nil, append_assoc, arith, true≢false}
-use Rattle.std.specs.Option.{option_map}
-use Rattle.std.proofs.lemmas.Bool.{false≢true}
-use Rattle.std.proofs.lemmas.List.{append_cancel_right, length-append}
-use Rattle.lexopt_spec.specs.UnreadLine.{IsLine, IsPlain, TailFits, UnreadLine, dash, no_tail}
+use Rattle.lexopt_options_spec.proofs.Common.{◌≡◌, ◌≢◌, ◌≤◌, ◌+◌, ◌⊎◌, ℕ, Bool, true, false, List, [], ◌∷◌, ◌++◌, length, map, Option, Some, None, refl, sym, ap, subst, ◌∙◌, inl, inr, ⊎_elim}
+use Rattle.lexopt_options_spec.proofs.Common.{append-nil, append_assoc, arith, true≢false, false≢true, append_cancel_right, length-append, same_Some, IsLine, IsPlain, TailFits, UnreadLine, dash}
+use Rattle.lexopt_options_spec.proofs.Common.{no_tail, Item, Name, Table, kind, IsReading, ReadsFirst, ReadsItems, first_positional, first_flag, first_one, first_optional, first_several, item_after}
+use Rattle.lexopt_options_spec.proofs.Common.{items_of_replies, option_reply, start, Spells, next_same, one_line_left, one_more_item, says_items, spelled_shows, no_other_reading, option_reading}
+use Rattle.lexopt_options_spec.proofs.Common.{some_reading, reads_last, reads_refused, says_positional, step_line, shown_read, Declaration, Declared, index_of, table, IsWithin, MeansFront, Parsed}
+use Rattle.lexopt_options_spec.proofs.Common.{are_accepted, counts, is_option, most, positional_count, parsed_item, Says, IsOfOption, Mistake, ReadsUpTo, Stops, invalid_value, not_declared}
+use Rattle.lexopt_options_spec.proofs.Common.{value_of_flag, no_value, not_accepted}
 use Rattle.lexopt_spec.specs.Steps as steps
 use Rattle.lexopt_spec.specs.Steps.{Next, NextStep, Reply, after_separator, next_word, no_word_left, reads_separator, word_left}
 use Rattle.lexopt_spec.specs.Runs as calls
 use Rattle.lexopt_line_spec.specs.Table as spec
-use Rattle.lexopt_line_spec.specs.Table.{Item, Name, Table, kind}
-use Rattle.lexopt_line_spec.specs.Readings.{IsReading, ReadsFirst, ReadsItems, first_positional, first_flag, first_one, first_optional, first_several, item_after, items_of_replies, option_reply, start}
 use Rattle.lexopt_line_spec.specs.Speller.{IsOf}
-use Rattle.lexopt_line_spec.specs.Spelling.{Spells}
-use Rattle.lexopt_line_spec.proofs.Exact.{next_same}
-use Rattle.lexopt_line_spec.proofs.ItemsRead.{one_line_left, one_more_item, says_items}
-use Rattle.lexopt_line_spec.proofs.Names.{spelled_shows}
-use Rattle.lexopt_line_spec.proofs.OneReading.{no_other_reading, option_reading, some_reading}
-use Rattle.lexopt_line_spec.proofs.ReadingSteps.{reads_last, reads_refused, says_positional}
-use Rattle.lexopt_line_spec.proofs.RunAccounts.{step_line}
-use Rattle.lexopt_line_spec.proofs.WholeLines.{shown_read}
-use Rattle.lexopt_options_spec.specs.Declaration.{Declaration, Declared, index_of, table}
 use Rattle.lexopt_options_spec.specs.Legal as legal
-use Rattle.lexopt_options_spec.specs.Legal.{IsWithin, MeansFront, Parsed, are_accepted, counts, is_option, most, positional_count, parsed_item}
-use Rattle.lexopt_options_spec.specs.Rest.{EndsSeparated, HaveNoRest, IsSplit, RestStart, separated, surplus}
-use Rattle.lexopt_options_spec.specs.States.{Says}
-use Rattle.lexopt_options_spec.specs.Stops.{IsOfOption, Mistake, ReadsUpTo, Stops, invalid_value, not_declared, value_of_flag, no_value, not_accepted, one_too_many, too_few, not_taken, not_complete}
+use Rattle.lexopt_options_spec.specs.Rest.{EndsSeparated, HaveNoRest, IsSplit, IsWithoutRest, RestStart, separated, surplus}
 use Rattle.lexopt_options_spec.proofs.Cuts.{enough, items_cut}
 use Rattle.lexopt_options_spec.proofs.Fronts.{item_of, not_refused, spelled_read, undeclared}
 use Rattle.lexopt_options_spec.proofs.Growing.{EndsSo, ended_before, ends_so, items_calm, longer, open_there, separator_last, step_more}
-use Rattle.lexopt_options_spec.proofs.Lists.{Later, first_is, first_none, first_same, same_last, split}
+use Rattle.lexopt_options_spec.proofs.Lists.{Later, first_is, first_none, first_same, last_item, not_empty, same_last, split}
 use Rattle.lexopt_options_spec.proofs.Occurs.{dashes_calm}
+use Rattle.lexopt_options_spec.proofs.OpenLines.{dashes}
 use Rattle.lexopt_options_spec.proofs.PastSeparator.{ended_stays, items_line, items_stay, named_open, open_before, option_open}
 use Rattle.lexopt_options_spec.proofs.ReadItems.{ReadsAll}
-use Rattle.lexopt_options_spec.proofs.Rests.{word_read}
+use Rattle.lexopt_options_spec.proofs.Rests.{word_is, word_read}
+use Rattle.lexopt_options_spec.proofs.Sound.{known}
 
 -- ---- positionals among items
 
@@ -45,14 +35,10 @@ abbrev pub count_items : List Item → ℕ
 count_items [] = 0
 count_items (x ∷ xs) = is_word x + count_items xs
 
-indexed : (o : Option ℕ) (f : ℕ → Parsed) (s : Parsed) → ((i : ℕ) → counts (f i) ≡ 0) → option_map f o ≡ Some s → counts s ≡ 0
-indexed None f s none is = absurd (let e : None ≡ Some s = is in cc)
-indexed (Some i) f s none is = let e : f i ≡ s = (let g : Some (f i) ≡ Some s = is in cc) in sym (ap counts e) ∙ none i
-
 word_counts : (options : List Declared) (x : Item) (s : Parsed) → parsed_item options x ≡ Some s → is_word x ≡ counts s
-word_counts options (spec.positional word) s is = let e : legal.positional word ≡ s = (let g : Some (legal.positional word) ≡ Some s = is in cc) in ap counts e
-word_counts options (spec.option name value) s is = sym (indexed (index_of options name) (λ i. legal.option i value) s (λ i. refl) is)
-word_counts options (spec.many name values) s is = sym (indexed (index_of options name) (λ i. legal.several i values) s (λ i. refl) is)
+word_counts options (spec.positional word) s is = ap counts (same_Some (legal.positional word) s is)
+word_counts options (spec.option name value) s is = ap counts (known (λ i. legal.option i value) (index_of options name) s is).2
+word_counts options (spec.many name values) s is = ap counts (known (λ i. legal.several i values) (index_of options name) s is).2
 
 same_count : (options : List Declared) (items : List Item) (l : List Parsed) → map (parsed_item options) items ≡ map (λ s. Some s) l → count_items items ≡ positional_count l
 same_count options [] [] is = refl
@@ -63,35 +49,18 @@ same_count options (x ∷ items) (s ∷ l) is =
     let one = word_counts options x s parts.0 in
     let others = same_count options items l parts.1 in omega (arith, one, others)
 
--- the last thing that is read is the last of these items
-last_item : {X Y : Type 0} (f : X → Option Y) (items : List X) (before : List Y) (last : Y) → map f items ≡ map (λ s. Some s) (before ++ last ∷ []) → (front : List X) × (x : X) × (items ≡ front ++ x ∷ []) × (f x ≡ Some last)
-last_item f [] [] last is = absurd (let e : [] ≡ Some last ∷ [] = is in cc)
-last_item f [] (b ∷ before) last is = absurd (let e : [] ≡ Some b ∷ map (λ s. Some s) (before ++ last ∷ []) = is in cc)
-last_item f (x ∷ []) [] last is = ([], x, refl, (first_same (f x) (Some last) [] [] is).0)
-last_item f (x ∷ y ∷ items) [] last is = absurd (let e : f y ∷ map f items ≡ [] = (first_same (f x) (Some last) (map f (y ∷ items)) [] is).1 in cc)
-last_item f (x ∷ items) (b ∷ before) last is =
-    let rest = last_item f items before last (first_same (f x) (Some b) (map f items) (map (λ s. Some s) (before ++ last ∷ [])) is).1 in (x ∷ rest.0, rest.1, ap (λ xs. x ∷ xs) rest.2, rest.3)
-
 -- the last of these items is this positional
 last_word : (options : List Declared) (items : List Item) (l : List Parsed) (word : List ℕ) → map (parsed_item options) items ≡ map (λ s. Some s) (l ++ legal.positional word ∷ [])
     → (front : List Item) × (items ≡ front ++ spec.positional word ∷ []) × (map (parsed_item options) front ≡ map (λ s. Some s) l)
-last_word options [] [] word is = absurd (let e : [] ≡ Some (legal.positional word) ∷ [] = is in cc)
-last_word options [] (s ∷ l) word is = absurd (let e : [] ≡ Some s ∷ map (λ x. Some x) (l ++ legal.positional word ∷ []) = is in cc)
-last_word options (x ∷ []) [] word is = ([], ap (λ y. y ∷ []) (item_is x (first_same (parsed_item options x) (Some (legal.positional word)) [] [] is).0), refl)
+last_word options items l word is = let own = last_item (parsed_item options) items l (legal.positional word) is in (own.0, own.2 ∙ ap (λ x. own.0 ++ x ∷ []) (item_is own.1 own.3), own.4)
   where
+    word_of : Parsed → List ℕ
+    word_of (legal.positional w) = w
+    word_of s = []
+
     item_is : (y : Item) → parsed_item options y ≡ Some (legal.positional word) → y ≡ spec.positional word
-    item_is (spec.positional other) same = let e : legal.positional other ≡ legal.positional word = (let g : Some (legal.positional other) ≡ Some (legal.positional word) = same in cc) in ap (λ s. spec.positional (word_of s)) e
-      where
-        word_of : Parsed → List ℕ
-        word_of (legal.positional w) = w
-        word_of s = []
-    item_is (spec.option name value) same = absurd (let e = word_counts options (spec.option name value) (legal.positional word) same in omega (arith, e))
-    item_is (spec.many name values) same = absurd (let e = word_counts options (spec.many name values) (legal.positional word) same in omega (arith, e))
-last_word options (x ∷ y ∷ items) [] word is = absurd (let e : parsed_item options y ∷ map (parsed_item options) items ≡ [] = (first_same (parsed_item options x) (Some (legal.positional word)) (map (parsed_item options) (y ∷ items)) [] is).1 in cc)
-last_word options (x ∷ items) (s ∷ l) word is =
-    let parts = first_same (parsed_item options x) (Some s) (map (parsed_item options) items) (map (λ x. Some x) (l ++ legal.positional word ∷ [])) is in
-    let rest = last_word options items l word parts.1 in
-    (x ∷ rest.0, ap (λ xs. x ∷ xs) rest.1, ap (λ z. z ∷ map (parsed_item options) rest.0) parts.0 ∙ ap (λ zs. Some s ∷ zs) rest.2)
+    item_is (spec.positional other) same = ap (λ s. spec.positional (word_of s)) (same_Some (legal.positional other) (legal.positional word) same)
+    item_is y same = absurd (let e = word_counts options y (legal.positional word) same in omega (arith, e))
 
 -- one list of items begins the other, where a positional comes after the first
 begins_other : (xs ys a zs : List Item) (word : List ℕ) → xs ++ spec.positional word ∷ a ≡ ys ++ zs
@@ -145,11 +114,7 @@ pub record SplitRead (start_of : RestStart) (d : Declaration) (words : List (Lis
   pub ends : IsEnd start_of d l there after
 
 some_word : (x z : UnreadLine) (word : List ℕ) → NextStep x (steps.positional word) z → x.words ≢ []
-some_word x z word step none = let read = word_read x z word step in no_words read.before z.words (sym read.words_are ∙ none)
-  where
-    no_words : (before after : List (List ℕ)) → before ++ word ∷ after ≡ [] → ⊥
-    no_words [] after is = let e : word ∷ after ≡ [] = is in cc
-    no_words (w ∷ before) after is = let e : w ∷ (before ++ word ∷ after) ≡ [] = is in cc
+some_word x z word step none = let read = word_read x z word step in not_empty read.before z.words word (sym read.words_are ∙ none)
 
 surplus_read : (d : Declaration) (words front : List (List ℕ)) (word : List ℕ) (more : List (List ℕ)) (split : IsSplit surplus d words front word more) → SplitRead surplus d words split.l word more
 surplus_read d words front word more split =
@@ -192,9 +157,6 @@ record OpenRead (d : Declaration) (before : List (List ℕ)) (l : List Parsed) :
   none : there.tail ≡ no_tail
   not : there.ended ≡ false
   empty : there.words ≡ []
-
-abbrev dashes : List ℕ
-dashes = dash ∷ dash ∷ []
 
 open_read : (d : Declaration) (before : List (List ℕ)) (l : List Parsed) → Says d before l → Says d (before ++ dashes ∷ []) l → OpenRead d before l
 open_read d before l own with_separator =
@@ -266,9 +228,6 @@ whole d words l word more read =
     let later = some_reading t read.after (subst (λ tail. TailFits tail read.after.last read.after.ended) (sym after.none) tt) in
     (later.0, later.1, says_items t (start d.short_equals words) read.there read.items read.reads later.0 (spec.positional word ∷ later.1) (says_positional t read.there read.after word (inl read.step) later.0 later.1 later.2))
 
-same_word : (v w : List ℕ) → steps.positional v ≡ steps.positional w → v ≡ w
-same_word v w is = cc
-
 -- ---- what is read before the rest is of the front
 
 -- these items are the front, or it goes on with others
@@ -277,11 +236,6 @@ record InFront (front : List Item) (word : List ℕ) (read xs : List Item) : Typ
   m : List Item
   are : front ≡ read ++ k
   items_are : k ++ spec.positional word ∷ m ≡ xs
-
--- at most as many positionals are among these as among those
-most_of : (limit : Option ℕ) (n k : ℕ) → limit ≡ Some n → IsWithin k limit → k ≤ n
-most_of None n k is within = absurd (let e : None ≡ Some n = is in cc)
-most_of (Some m) n k is within = let e : m ≡ n = (let f : Some m ≡ Some n = is in cc) in omega (arith, e, within)
 
 in_front : (start_of : RestStart) (d : Declaration) (words : List (List ℕ)) (l : List Parsed) (word : List ℕ) (more : List (List ℕ)) (own : SplitRead start_of d words l word more) (before : List Parsed) (u : UnreadLine) (read : ReadsUpTo d (start d.short_equals words) before u)
     → IsBefore start_of u → (final : Reply) (xs : List Item) → IsReading (table d.options) u final xs → InFront own.items word read.items xs
@@ -294,7 +248,7 @@ in_front start_of d words l word more own before u read yet final xs reading =
   where
     never : (s : RestStart) (own : SplitRead s d words l word more) → IsBefore s u → (k : List Item) → read.items ≡ own.items ++ spec.positional word ∷ k → ⊥
     never surplus own is_before k are =
-        let few = most_of (most d.positionals) (positional_count l) (positional_count before) own.ends read.within in
+        let few : positional_count before ≤ positional_count l = subst (IsWithin (positional_count before)) own.ends read.within in
         let one = same_count d.options own.items l own.parsed in
         let two = same_count d.options read.items before read.parsed in
         let three = ap count_items are ∙ counts_append own.items (spec.positional word ∷ k) in omega (arith, few, one, two, three)
@@ -320,10 +274,7 @@ split_upto {start_of} d words l word more own = record {
 }
   where
     within : (s : RestStart) (own : SplitRead s d words l word more) → IsWithin (positional_count l) (most d.positionals)
-    within surplus own = all (most d.positionals) (positional_count l) own.ends
-      where
-        all : (limit : Option ℕ) (n : ℕ) → limit ≡ Some n → IsWithin n limit
-        all limit n is = rw is omega arith
+    within surplus own = let enough : positional_count l ≤ positional_count l = omega arith in subst (IsWithin (positional_count l)) (sym own.ends) enough
     within separated own = own.ends.2
 
 split_before : (start_of : RestStart) (d : Declaration) (words : List (List ℕ)) (l : List Parsed) (word : List ℕ) (more : List (List ℕ)) (own : SplitRead start_of d words l word more) → IsBefore start_of own.there
@@ -346,7 +297,7 @@ one_rest {start_of} d words front front2 word word2 more more2 one two =
     let items : first.items ≡ second.items = same_lists first.items second.items here_in.k there_in.k here_in.are there_in.are in
     let there = one_line_left t s first.there second.there second.items (subst (λ xs. ReadsItems t s xs first.there) items first.reads) second.reads in
     let both = next_same second.there (steps.positional word) (steps.positional word2) first.after second.after (subst (λ u. NextStep u (steps.positional word) first.after) there first.step) second.step in
-    let rest = ap (λ w. w ∷ more) (same_word word word2 both.0) ∙ ap (λ ws. word2 ∷ ws) (sym first.left ∙ ap (λ (v : UnreadLine). v.words) both.1 ∙ second.left) in
+    let rest = ap (λ w. w ∷ more) (word_is word word2 (sym both.0)) ∙ ap (λ ws. word2 ∷ ws) (sym first.left ∙ ap (λ (v : UnreadLine). v.words) both.1 ∙ second.left) in
     (append_cancel_right front front2 (word2 ∷ more2) (ap (λ r. front ++ r) (sym rest) ∙ sym one.words_are ∙ two.words_are), rest)
   where
     rest_reading : {l : List Parsed} {w : List ℕ} {ws : List (List ℕ)} (own : SplitRead start_of d words l w ws) → (final : Reply) × (xs : List Item) × IsReading (table d.options) own.there final xs
@@ -374,14 +325,10 @@ goes_on {start_of} d words front word more part before u read is_before final xs
     let k = in_front start_of d words part.l word more own before u read is_before final xs reading in
     record { k = k.k; m = k.m; items_are = k.items_are; later = split (parsed_item d.options) read.items k.k before part.l read.parsed (sym (ap (map (parsed_item d.options)) k.are) ∙ own.parsed) }
 
-no_items : (k m : List Item) (x : Item) → k ++ x ∷ m ≡ [] → ⊥
-no_items [] m x is = let e : x ∷ m ≡ [] = is in cc
-no_items (y ∷ k) m x is = let e : y ∷ (k ++ x ∷ m) ≡ [] = is in cc
-
 -- words that are read to their end have no rest
 pub ended_alone : {start_of : RestStart} (d : Declaration) (words : List (List ℕ)) (l : List Parsed) (u v : UnreadLine) → ReadsUpTo d (start d.short_equals words) l u → IsBefore start_of u → Next u steps.end v → HaveNoRest start_of d words
 ended_alone d words l u v read is_before next front word more part =
-    let on = goes_on d words front word more part l u read is_before steps.end [] (reads_last (table d.options) u v steps.end tt next) in no_items on.k on.m (spec.positional word) on.items_are
+    let on = goes_on d words front word more part l u read is_before steps.end [] (reads_last (table d.options) u v steps.end tt next) in not_empty on.k on.m (spec.positional word) on.items_are
 
 -- words with one positional too many, and no separator before it, have none after a separator
 pub surplus_alone : (d : Declaration) (words : List (List ℕ)) (l : List Parsed) (u v : UnreadLine) (other : List ℕ) → ReadsUpTo d (start d.short_equals words) l u → Next u (steps.positional other) v → v.ended ≡ false → most d.positionals ≡ Some (positional_count l)
@@ -406,7 +353,7 @@ surplus_alone d words l u v other read next not full front word more part =
         let after = (next_same u (steps.positional word) (steps.positional other) own.after v (subst (λ x. NextStep x (steps.positional word) own.after) there own.step) step).1 in
         true≢false (sym own.ends.1 ∙ ap (λ (x : UnreadLine). x.ended) after ∙ not)
     by own step (x ∷ k) m xs are items_are =
-        let few = most_of (most d.positionals) (positional_count l) (positional_count part.l) full own.ends.2 in
+        let few : positional_count part.l ≤ positional_count l = subst (IsWithin (positional_count part.l)) full own.ends.2 in
         let one = same_count d.options own.items part.l own.parsed in
         let two = same_count d.options read.items l read.parsed in
         let three = ap count_items are ∙ counts_append read.items (x ∷ k) in
@@ -418,6 +365,10 @@ front_alone d words l means =
     let read = spelled_read (table d.options) d.short_equals words means.items means.spelled in
     ended_alone {start_of = surplus} d words l read.1.there read.0
     (record { items = means.items; read = read.1.reads; line = items_line (table d.options) (start d.short_equals words) read.1.there means.items tt read.1.reads; parsed = means.parsed; within = means.within }) (λ is. cc) (inl read.1.ends)
+
+pub none_alone : (start_of : RestStart) (d : Declaration) (words : List (List ℕ)) (l : List Parsed) → IsWithoutRest start_of d words → MeansFront d words l → HaveNoRest start_of d words
+none_alone surplus d words l alone means = front_alone d words l means
+none_alone separated d words l alone means = alone
 
 pub front_begins : {start_of : RestStart} (d : Declaration) (words front : List (List ℕ)) (word : List ℕ) (more : List (List ℕ)) (part : IsSplit start_of d words front word more) (before : List Parsed) (u : UnreadLine) → ReadsUpTo d (start d.short_equals words) before u
     → IsBefore start_of u → (later : List Parsed) × (part.l ≡ before ++ later)
@@ -432,8 +383,7 @@ first_option (y ∷ k) m xs word x other is = let parts = first_same y x (k ++ s
 
 of_name : (name : Name) (item : Item) → IsOf name item → is_word item ≡ 0
 of_name name (spec.positional word) is = absurd is
-of_name name (spec.option other value) is = refl
-of_name name (spec.many other values) is = refl
+of_name name item is = refl
 
 items_one : (name : Name) (o : Option (List ℕ)) → items_of_replies (option_reply name ∷ steps.missing o ∷ []) ≡ spec.option name None ∷ []
 items_one (spec.short c) o = refl
@@ -447,8 +397,7 @@ one_item options (x ∷ y ∷ items) s are = absurd (let e : parsed_item options
 
 not_counted : (s : Parsed) (index : ℕ) → is_option index s ≡ true → counts s ≡ 0
 not_counted (legal.positional word) index is = absurd (false≢true is)
-not_counted (legal.option i value) index is = refl
-not_counted (legal.several i values) index is = refl
+not_counted s index is = refl
 
 -- an option is read before the separator
 first_item_open : (t : Table) (u w : UnreadLine) (item : Item) → is_word item ≡ 0 → IsLine u → ReadsFirst t u item w → u.ended ≡ false
@@ -460,14 +409,13 @@ first_item_open t u w item none line (first_several name n values v x k step few
 
 -- where an option was read last, the separator was not read
 pub last_open : (d : Declaration) (s u : UnreadLine) (before : List Parsed) (last : Parsed) → IsLine s → ReadsUpTo d s (before ++ last ∷ []) u → counts last ≡ 0 → u.ended ≡ false
-last_open d s u before last line read none = by read.items read.read (last_item (parsed_item d.options) read.items before last read.parsed)
-  where
-    by : (items : List Item) → ReadsItems (table d.options) s items u → (front : List Item) × (x : Item) × (items ≡ front ++ x ∷ []) × (parsed_item d.options x ≡ Some last) → u.ended ≡ false
-    by items reads (front, x, are, is) =
-        let t = table d.options in
-        let parts = items_split t s u front (x ∷ []) (subst (λ xs. ReadsItems t s xs u) are reads) in
-        let there = items_line t s parts.0 front line parts.1 in
-        ap (λ (y : UnreadLine). y.ended) parts.2.2 ∙ option_open t parts.0 parts.2.0 x there parts.2.1 (λ word same. let f : is_word (spec.positional word) ≡ 0 = sym (ap is_word same) ∙ word_counts d.options x last is ∙ none in omega (arith, f))
+last_open d s u before last line read none =
+    let t = table d.options in
+    let own = last_item (parsed_item d.options) read.items before last read.parsed in
+    let parts = items_split t s u own.0 (own.1 ∷ []) (subst (λ xs. ReadsItems t s xs u) own.2 read.read) in
+    let there = items_line t s parts.0 own.0 line parts.1 in
+    ap (λ (y : UnreadLine). y.ended) parts.2.2
+    ∙ option_open t parts.0 parts.2.0 own.1 there parts.2.1 (λ word same. let f : is_word (spec.positional word) ≡ 0 = sym (ap is_word same) ∙ word_counts d.options own.1 last own.3 ∙ none in omega (arith, f))
 
 -- if an option has this mistake, the words have no rest after options that accept their values
 pub mistaken : {start_of : RestStart} (d : Declaration) (words front : List (List ℕ)) (word : List ℕ) (more : List (List ℕ)) (part : IsSplit start_of d words front word more) (before : List Parsed) (u : UnreadLine) (mistake : Mistake) → ReadsUpTo d (start d.short_equals words) before u
@@ -481,12 +429,12 @@ mistaken {start_of} d words front word more part before u mistake read of (not_d
 mistaken {start_of} d words front word more part before u mistake read of (value_of_flag option value v step) accepted =
     let on = goes_on d words front word more part before u read
     (λ _. open_before u v (steps.unexpected option value) read.line (enough NextStep u (steps.unexpected option value) v step (λ none. cc)) (λ x is. cc) (λ is. cc)) (steps.unexpected option value) [] (reads_last (table d.options) u v (steps.unexpected option value) tt step) in
-    no_items on.k on.m (spec.positional word) on.items_are
+    not_empty on.k on.m (spec.positional word) on.items_are
 mistaken {start_of} d words front word more part before u mistake read of (no_value name index option call v w step found due takes) accepted =
     let t = table d.options in
     let on = goes_on d words front word more part before u read (λ _. named_open u v name read.line step) (steps.missing (Some option)) _ (reads_refused t u v w name (kind t name) call (steps.missing (Some option)) refl due tt step takes) in
     let k = first_option on.k on.m [] word (spec.option name None) refl (on.items_are ∙ items_one name (Some option)) in
-    no_items k.0 on.m (spec.positional word) k.2
+    not_empty k.0 on.m (spec.positional word) k.2
 mistaken {start_of} d words front word more part before u mistake read of (not_accepted s index value v given is refused) accepted =
     let t = table d.options in
     let one = one_item d.options given.items s given.parsed in
@@ -497,10 +445,7 @@ mistaken {start_of} d words front word more part before u mistake read of (not_a
     let k = first_option on.k on.m r.1 word one.0 none (on.items_are ∙ ap (λ l. l ++ r.1) one.1) in
     let first = first_is (parsed_item d.options) one.0 s k.0 on.later.later one.2 (sym (ap (map (parsed_item d.options)) k.1) ∙ on.later.are) in
     not_refused d.options before s first.0 value (subst (λ l. are_accepted d.options l ≡ true) (on.later.all_are ∙ ap (λ l. before ++ l) first.1) (accepted index value refl)) refused
-mistaken {start_of} d words front word more part before u mistake read of (one_too_many other v step limit) accepted = of
-mistaken {start_of} d words front word more part before u mistake read of (too_few v step few) accepted = of
-mistaken {start_of} d words front word more part before u mistake read of (not_taken index other v step enough unfit) accepted = of
-mistaken {start_of} d words front word more part before u mistake read of (not_complete index v step enough taken first) accepted = of
+mistaken {start_of} d words front word more part before u mistake read of stops accepted = of
 
 -- ---- words that the separator ends
 

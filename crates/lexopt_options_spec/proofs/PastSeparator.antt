@@ -1,13 +1,9 @@
 -- Once the separator was read, only positionals are read.
-use Rattle.std.proofs.Common.{◌≡◌, ◌≢◌, ℕ, true, false, List, [], ◌∷◌, refl, sym, ap, subst, ◌∙◌, true≢false}
-use Rattle.lexopt_spec.specs.UnreadLine.{IsLine, Tail, TailFits, UnreadLine}
+use Rattle.lexopt_options_spec.proofs.Common.{◌≡◌, ◌≢◌, ℕ, true, false, List, [], ◌∷◌, refl, sym, ap, subst, ◌∙◌, true≢false, IsLine, Tail, TailFits, UnreadLine, ValuesStep, ReadsFirst, ReadsItems}
+use Rattle.lexopt_options_spec.proofs.Common.{first_positional, first_flag, first_one, first_optional, first_several, option_reply, full_step, option_given}
 use Rattle.lexopt_spec.specs.Steps as steps
 use Rattle.lexopt_spec.specs.Steps.{Next, NextStep, OptionalStep, Reply, ReadsPositional, ValueStep, no_word_left, word_left, joined_value, equals_value, next_in_cluster, after_separator, next_word, pending_value, takes_word, nothing_to_take, optional_pending, optional_none}
-use Rattle.lexopt_spec.specs.Views.{ValuesStep}
 use Rattle.lexopt_line_spec.specs.Table.{Item, Name, Table, long, positional, short}
-use Rattle.lexopt_line_spec.specs.Readings.{ReadsFirst, ReadsItems, first_positional, first_flag, first_one, first_optional, first_several, option_reply}
-use Rattle.lexopt_line_spec.proofs.FullValues.{full_step}
-use Rattle.lexopt_line_spec.proofs.ItemsRead.{option_given}
 use Rattle.lexopt_options_spec.proofs.Cuts.{enough}
 use Rattle.lexopt_options_spec.proofs.Growing.{full_ended, grows_first, option_before_separator}
 

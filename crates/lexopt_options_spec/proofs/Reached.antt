@@ -1,31 +1,21 @@
 -- Words that are read up to a place, and what the next word is there.
-use Rattle.std.proofs.Common.{◌≡◌, ◌≢◌, ℕ, Bool, true, false, List, [], ◌∷◌, ◌++◌, map, Option, Some, None, refl, sym, ap, subst, ◌∙◌, arith, inl}
-use Rattle.std.specs.Option.{option_map}
-use Rattle.std.proofs.lemmas.Bool.{false≢true}
-use Rattle.std.proofs.lemmas.List.{append-nil}
-use Rattle.lexopt_spec.specs.UnreadLine.{no_tail, UnreadLine, IsLine, IsPlain, IsNormalIn, pending, spelling}
+use Rattle.lexopt_options_spec.proofs.Common.{◌≡◌, ◌≢◌, ℕ, Bool, true, false, List, [], ◌∷◌, ◌++◌, map, Option, Some, None, refl, sym, ap, subst, ◌∙◌, arith, inl, option_map, false≢true, append-nil}
+use Rattle.lexopt_options_spec.proofs.Common.{no_tail, UnreadLine, IsLine, IsPlain, IsNormalIn, pending, spelling, ValuesStep, Step, Item, Name, kind, ReadsFirst, ReadsItems, first_positional}
+use Rattle.lexopt_options_spec.proofs.Common.{first_one, first_several, option_reply, start, IsDue, one_more_item, step_line, Declaration, index_of, is_sound, table, IsWithin, Parsed, most}
+use Rattle.lexopt_options_spec.proofs.Common.{parsed_item, positional_count, Leaves, LeadsNowhere, Says, leaves_anything, leaves_due, leaves_first, leaves_further, leaves_ended, state_at_end, Mistake}
+use Rattle.lexopt_options_spec.proofs.Common.{ReadsUpTo, Stops, missing_value, no_value, not_declared, one_too_many, unexpected_argument, unexpected_value, unknown_option, value_of_flag}
 use Rattle.lexopt_spec.specs.Steps as steps
 use Rattle.lexopt_spec.specs.Steps.{Reply, Next, NextStep, no_word_left, reads_separator, next_word, nothing_to_take}
-use Rattle.lexopt_spec.specs.Views.{ValuesStep}
 use Rattle.lexopt_spec.specs.Runs as calls
-use Rattle.lexopt_spec.specs.Runs.{Step}
 use Rattle.lexopt_line_spec.specs.Table as spec
-use Rattle.lexopt_line_spec.specs.Table.{Item, Name, kind}
-use Rattle.lexopt_line_spec.specs.Readings.{ReadsFirst, ReadsItems, first_positional, first_one, first_several, option_reply, start, IsDue}
-use Rattle.lexopt_line_spec.proofs.ItemsRead.{one_more_item}
 use Rattle.lexopt_line_spec.proofs.LastOption.{missing_names}
 use Rattle.lexopt_line_spec.proofs.OptionalLaw.{none_tail}
-use Rattle.lexopt_line_spec.proofs.RunAccounts.{step_line}
-use Rattle.lexopt_options_spec.specs.Declaration.{Declaration, index_of, is_sound, table}
 use Rattle.lexopt_options_spec.specs.Legal as legal
-use Rattle.lexopt_options_spec.specs.Legal.{IsWithin, Parsed, most, parsed_item, positional_count}
 use Rattle.lexopt_options_spec.specs.States as states
-use Rattle.lexopt_options_spec.specs.States.{Leaves, LeadsNowhere, Says, leaves_anything, leaves_due, leaves_first, leaves_further, leaves_ended, state_at_end}
-use Rattle.lexopt_options_spec.specs.Stops.{Mistake, ReadsUpTo, Stops, missing_value, no_value, not_declared, one_too_many, unexpected_argument, unexpected_value, unknown_option, value_of_flag}
-use Rattle.lexopt_options_spec.proofs.Cuts.{enough}
+use Rattle.lexopt_options_spec.proofs.Cuts.{ends_here, enough}
 use Rattle.lexopt_options_spec.proofs.Fronts.{ComesTo, StopsEarly, no_front, nothing_read}
 use Rattle.lexopt_options_spec.proofs.Growing.{longer, Calm, Grows, EndsSo, ended_before, open_there, separator_last, ends_so, adds_word, calm_before, first_taken, lack_more, no_option, not_normal_more, only_end, option_before_separator, option_more, step_more, takes_next}
-use Rattle.lexopt_options_spec.proofs.Rests.{ends_here, ends_reading, reading_spells}
+use Rattle.lexopt_options_spec.proofs.Rests.{ends_reading, reading_spells}
 use Rattle.lexopt_options_spec.proofs.Lists.{joined}
 use Rattle.lexopt_options_spec.proofs.Occurs.{dashes_calm}
 use Rattle.lexopt_options_spec.proofs.OpenLines.{dashes}

@@ -1,14 +1,11 @@
 -- The items of a reading that reaches the end are read one by one.
-use Rattle.std.proofs.Common.{◌≡◌, ◌≤◌, ℕ, zero, suc, List, ◌∷◌, length, take, Option, Some, None, refl, sym, subst, inl, arith}
-use Rattle.lexopt_spec.specs.UnreadLine.{UnreadLine, spelling}
+use Rattle.lexopt_options_spec.proofs.Common.{◌≡◌, ◌≤◌, ℕ, zero, suc, List, ◌∷◌, length, take, Option, Some, None, refl, sym, subst, inl, arith, UnreadLine, spelling, ValuesStep, available, no_values}
+use Rattle.lexopt_options_spec.proofs.Common.{some_values, Call, Run, StepWithMemory, AskedAfter, last, more, IsReading, ReadsFirst, ReadsItems, first_positional, first_flag, first_one}
+use Rattle.lexopt_options_spec.proofs.Common.{first_optional, first_several, items_of_replies, item_after, option_reply, GoesOn, IsFull, with_memory}
 use Rattle.lexopt_spec.specs.Steps as steps
 use Rattle.lexopt_spec.specs.Steps.{Reply, Next, NextStep, ValueStep, OptionalStep, pending_value, takes_word, nothing_to_take, optional_pending, optional_none}
-use Rattle.lexopt_spec.specs.Views.{ValuesStep, available, no_values, some_values}
 use Rattle.lexopt_spec.specs.Runs as calls
-use Rattle.lexopt_spec.specs.Runs.{Call, Run, StepWithMemory}
 use Rattle.lexopt_line_spec.specs.Table.{Item, Kind, Name, Table, short, long, kind, flag, one, optional, several, option, many, positional}
-use Rattle.lexopt_line_spec.specs.Readings.{AskedAfter, last, more, IsReading, ReadsFirst, ReadsItems, first_positional, first_flag, first_one, first_optional, first_several, items_of_replies, item_after, option_reply, GoesOn, IsFull}
-use Rattle.lexopt_line_spec.proofs.OneReading.{with_memory}
 use Rattle.lexopt_line_spec.proofs.ReplyKinds.{next_reply, value_reply, optional_reply}
 use Rattle.lexopt_line_spec.proofs.Readings.{flag_item}
 

@@ -1,30 +1,14 @@
 -- Where the rest of a line begins.
-use Rattle.std.proofs.Common.{◌≡◌, ℕ, Bool, true, false, List, [], ◌∷◌, ◌++◌, map, Some, refl, sym, ap, subst, ◌∙◌, inl, append-nil, append_assoc, true≢false}
-use Rattle.std.proofs.lemmas.List.{append_cancel_right}
-use Rattle.lexopt_spec.specs.UnreadLine.{dash, no_tail, IsPlain, UnreadLine}
+use Rattle.lexopt_options_spec.proofs.Common.{◌≡◌, ℕ, true, false, List, [], ◌∷◌, ◌++◌, map, Some, refl, sym, ap, subst, ◌∙◌, inl, append-nil, append_assoc, true≢false, append_cancel_right, dash}
+use Rattle.lexopt_options_spec.proofs.Common.{no_tail, IsPlain, UnreadLine, Item, Table, IsReading, ReadsItems, start, Spells, says_items, shown_spells, says_positional, reads_last, said_shows}
+use Rattle.lexopt_options_spec.proofs.Common.{Declaration, is_sound, table, Parsed, most, positional, positional_count, parsed_item, Says, ReadsUpTo}
 use Rattle.lexopt_spec.specs.Steps as steps
 use Rattle.lexopt_spec.specs.Steps.{Next, NextStep, no_word_left, word_left, no_word, reads_separator, reads_long, reads_cluster, reads_positional, joined_value, equals_value, next_in_cluster, after_separator, next_word}
 use Rattle.lexopt_line_spec.specs.Table as spec
-use Rattle.lexopt_line_spec.specs.Table.{Item, Table}
-use Rattle.lexopt_line_spec.specs.Readings.{IsReading, ReadsItems, start}
-use Rattle.lexopt_line_spec.specs.Spelling.{Spells}
-use Rattle.lexopt_line_spec.proofs.ItemsRead.{says_items}
-use Rattle.lexopt_line_spec.proofs.Names.{shown_spells}
-use Rattle.lexopt_line_spec.proofs.ReadingSteps.{says_positional, reads_last}
-use Rattle.lexopt_line_spec.proofs.WholeLines.{said_shows}
-use Rattle.lexopt_options_spec.specs.Declaration.{Declaration, is_sound, table}
-use Rattle.lexopt_options_spec.specs.Legal.{Parsed, most, positional, positional_count, parsed_item}
 use Rattle.lexopt_options_spec.specs.Rest.{CanBegin, IsSplit, RestStart, separated, surplus}
-use Rattle.lexopt_options_spec.specs.States.{Says}
-use Rattle.lexopt_options_spec.specs.Stops.{ReadsUpTo}
-use Rattle.lexopt_options_spec.proofs.Cuts.{enough, items_cut, step_cut, with_words}
+use Rattle.lexopt_options_spec.proofs.Cuts.{ends_here, enough, items_cut, step_cut, with_words}
 use Rattle.lexopt_options_spec.proofs.Lists.{joined}
 use Rattle.lexopt_options_spec.proofs.Sound.{whole_names}
-
--- if no word is left, the line ends
-pub ends_here : (u : UnreadLine) (ended : Bool) → u.ended ≡ ended → u.tail ≡ no_tail → u.words ≡ [] → NextStep u steps.end u
-ends_here u true is none empty = after_separator none is (no_word_left empty refl refl)
-ends_here u false is none empty = next_word none is (no_word empty refl refl)
 
 -- the next word is a positional, or the one after the separator is; before the separator it is plain
 pub record WordRead (u : UnreadLine) (word : List ℕ) (w : UnreadLine) : Type 0 where
@@ -36,7 +20,7 @@ pub record WordRead (u : UnreadLine) (word : List ℕ) (w : UnreadLine) : Type 0
   pub plain : w.ended ≡ false → IsPlain false word
   pub past : u.ended ≡ false → w.ended ≡ true → (u.tail ≡ no_tail) × (before ≡ (dash ∷ dash ∷ []) ∷ [])
 
-word_is : (w word : List ℕ) → steps.positional word ≡ steps.positional w → w ≡ word
+pub word_is : (w word : List ℕ) → steps.positional word ≡ steps.positional w → w ≡ word
 word_is w word is = cc
 
 pub word_read : (u w : UnreadLine) (word : List ℕ) → NextStep u (steps.positional word) w → WordRead u word w

@@ -1,26 +1,16 @@
 -- What a word is in its place: the same, whichever word it is.
-use Rattle.std.proofs.Common.{◌≡◌, ◌≢◌, ◌<◌, ◌≤◌, ◌+◌, ℕ, suc, Bool, true, false, List, [], ◌∷◌, ◌++◌, map, length, drop, nat_eq, Option, Some, None, cond, refl, sym, ap, subst, ◌∙◌, inl, inr, arith, length-append, ◌&&◌, ◌==◌}
-use Rattle.std.specs.List.{starts_with}
-use Rattle.std.proofs.lemmas.Bool.{false≢true}
-use Rattle.std.proofs.lemmas.Bool.Decides.{Decides-eqb}
-use Rattle.std.proofs.lemmas.Option.{same_Some}
+use Rattle.lexopt_options_spec.proofs.Common.{◌≡◌, ◌≢◌, ◌<◌, ◌≤◌, ◌+◌, ℕ, suc, Bool, true, false, List, [], ◌∷◌, ◌++◌, map, length, drop, nat_eq, Option, Some, None, cond, refl, sym, ap, subst, ◌∙◌}
+use Rattle.lexopt_options_spec.proofs.Common.{inl, inr, arith, length-append, ◌&&◌, ◌==◌, starts_with, false≢true, Decides-eqb, same_Some, dash, equals, no_tail, rest_of, Tail, UnreadLine, pending}
+use Rattle.lexopt_options_spec.proofs.Common.{pending_in, BeginsWith, IsPlain, ValuesStep, Name, Item, Table, ReadsFirst, ReadsItems, first_positional, first_flag, first_one, first_optional}
+use Rattle.lexopt_options_spec.proofs.Common.{first_several, option_reply, FullStep, joined_one, attached_first, words_alone, nothing_given, full_step, option_given, shorter, Declaration, Declared}
+use Rattle.lexopt_options_spec.proofs.Common.{index_of, Parsed, parsed_item, EndsWith, Extends, HasRole, Role, role_of}
 use Rattle.std.proofs.lemmas.Slice.Eq.{starts_is}
 use Rattle.lexopt_spec.specs.Pieces.{after_first_piece}
-use Rattle.lexopt_spec.specs.UnreadLine.{dash, equals, no_tail, rest_of, Tail, UnreadLine, pending, pending_in, BeginsWith, IsPlain}
 use Rattle.lexopt_spec.specs.UnreadLine as unread
 use Rattle.lexopt_spec.specs.Steps as steps
 use Rattle.lexopt_spec.specs.Steps.{Reply, NextStep, ValueStep, OptionalStep, ReadsShort, alone, with_value, no_word_left, word_left, no_word, reads_separator, reads_long, reads_cluster, reads_positional, joined_value, equals_value, next_in_cluster, after_separator, next_word, pending_value, takes_word, nothing_to_take, optional_pending, optional_none}
-use Rattle.lexopt_spec.specs.Views.{ValuesStep}
 use Rattle.lexopt_line_spec.specs.Table as spec
-use Rattle.lexopt_line_spec.specs.Table.{Name, Item, Table}
-use Rattle.lexopt_line_spec.specs.Readings.{ReadsFirst, ReadsItems, first_positional, first_flag, first_one, first_optional, first_several, option_reply}
-use Rattle.lexopt_line_spec.proofs.FullValues.{FullStep, joined_one, attached_first, words_alone, nothing_given, full_step}
-use Rattle.lexopt_line_spec.proofs.ItemsRead.{option_given}
-use Rattle.lexopt_line_spec.proofs.Names.{shorter}
-use Rattle.lexopt_options_spec.specs.Declaration.{Declaration, Declared, index_of}
 use Rattle.lexopt_options_spec.specs.Legal as legal
-use Rattle.lexopt_options_spec.specs.Legal.{Parsed, parsed_item}
-use Rattle.lexopt_options_spec.specs.Completion.{EndsWith, Extends, HasRole, Role, role_of}
 use Rattle.lexopt_options_spec.proofs.Cuts.{came_is, enough}
 use Rattle.lexopt_options_spec.proofs.Fronts.{one_front}
 use Rattle.lexopt_options_spec.proofs.Growing.{longer}

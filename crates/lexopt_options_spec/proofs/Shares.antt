@@ -1,12 +1,8 @@
 -- How many words belong to each positional.
-use Rattle.std.proofs.Common.{◌≡◌, ◌≤◌, ◌+◌, ◌-◌, ◌==◌, ◌||◌, ℕ, zero, suc, Bool, true, false, List, [], ◌∷◌, length, take, min, max, Option, Some, None, if◌then◌else◌, refl, sym, ap, subst, ◌∙◌, arith}
-use Rattle.std.proofs.lemmas.Bool.{eqb-true, false≢true}
+use Rattle.lexopt_options_spec.proofs.Common.{◌≡◌, ◌≤◌, ◌+◌, ◌-◌, ◌==◌, ◌||◌, ℕ, zero, suc, Bool, true, false, List, [], ◌∷◌, length, take, min, max, Option, Some, None, if◌then◌else◌, refl, sym, ap}
+use Rattle.lexopt_options_spec.proofs.Common.{subst, ◌∙◌, arith, eqb-true, false≢true, AllZip, list_any, sum_by, Count, Positional, once, at_most_once, any_number, at_least_once, has_to_occur}
+use Rattle.lexopt_options_spec.proofs.Common.{may_repeat, IsWithin, most, least, required, AreFirst, ArePlaces, AreShares, CanTake, NoneSpare, extra, greedy, has_room, needs, owners}
 use Rattle.std.proofs.lemmas.List.Sums.{count_by-le-length, length-filter, sum_by-cons}
-use Rattle.std.specs.List.{AllZip, list_any, sum_by}
-use Rattle.lexopt_options_spec.specs.Declaration.{Count, Positional, once, at_most_once, any_number, at_least_once, has_to_occur, may_repeat}
-use Rattle.lexopt_options_spec.specs.Legal.{IsWithin, most}
-use Rattle.lexopt_options_spec.specs.Places.{least, required}
-use Rattle.lexopt_options_spec.specs.Places.{AreFirst, ArePlaces, AreShares, CanTake, NoneSpare, extra, greedy, has_room, needs, owners}
 
 -- ---- to each as many as can
 
@@ -20,9 +16,7 @@ least_cons p ps = go p.count
   where
     go : (c : Count) → length (if has_to_occur c then p ∷ required ps else required ps) ≡ needs c + least ps
     go once = omega arith
-    go at_most_once = omega arith
-    go any_number = omega arith
-    go at_least_once = omega arith
+    go c = omega arith
 
 pub least_fits : (ps : List Positional) → IsWithin (least ps) (most ps)
 least_fits ps = go (list_any (λ p. may_repeat p.count) ps)
@@ -47,12 +41,10 @@ rest_fits p ps spare within =
         → IsWithin (least ps + (spare - extra c spare)) (if b then None else Some (length ps))
     go once true within small = tt
     go once false within small = omega arith
-    go at_most_once true within small = tt
     go at_most_once false within small = omega arith
-    go any_number true within small = tt
     go any_number false within small = omega arith
-    go at_least_once true within small = tt
     go at_least_once false within small = omega arith
+    go c true within small = tt
 
 -- ---- there is a list of shares
 
@@ -62,15 +54,11 @@ none_spare (p ∷ ps) spare none = (go p.count, none_spare ps (spare - extra p.c
   where
     go : (c : Count) → needs c + extra c spare ≡ needs c
     go once = omega arith
-    go at_most_once = omega arith
-    go any_number = omega arith
-    go at_least_once = omega arith
+    go c = omega arith
 
 can_take : (c : Count) (spare : ℕ) → CanTake c (needs c + extra c spare)
-can_take once spare = omega arith
-can_take at_most_once spare = omega arith
 can_take any_number spare = tt
-can_take at_least_once spare = omega arith
+can_take c spare = omega arith
 
 each_can : (ps : List Positional) (spare : ℕ) → AllZip (λ p n. CanTake p.count n) ps (greedy ps spare)
 each_can [] spare = tt
@@ -78,9 +66,7 @@ each_can (p ∷ ps) spare = (can_take p.count spare, each_can ps (spare - extra 
 
 extra_small : (c : Count) (spare : ℕ) → extra c spare ≤ spare
 extra_small once spare = omega arith
-extra_small at_most_once spare = omega arith
-extra_small any_number spare = omega arith
-extra_small at_least_once spare = omega arith
+extra_small c spare = omega arith
 
 all_taken : (ps : List Positional) (spare : ℕ) → IsWithin (least ps + spare) (most ps) → total (greedy ps spare) ≡ least ps + spare
 all_taken [] spare within = let none : spare ≡ 0 = omega arith in omega (arith, none)
@@ -96,8 +82,7 @@ all_taken (p ∷ ps) spare within =
 no_more : (c : Count) (spare : ℕ) → has_room c (needs c + extra c spare) ≡ true → spare - extra c spare ≡ 0
 no_more once spare room = absurd (false≢true room)
 no_more at_most_once spare room = let none = eqb-true (0 + min 1 spare) 0 room in omega (arith, none)
-no_more any_number spare room = omega arith
-no_more at_least_once spare room = omega arith
+no_more c spare room = omega arith
 
 are_first : (ps : List Positional) (spare : ℕ) → AreFirst ps (greedy ps spare)
 are_first [] spare = tt
@@ -127,9 +112,7 @@ none_total (p ∷ ps) (n ∷ shares) none =
 
 takes_enough : (c : Count) (n : ℕ) → CanTake c n → needs c ≤ n
 takes_enough once n can = omega arith
-takes_enough at_most_once n can = omega arith
-takes_enough any_number n can = omega arith
-takes_enough at_least_once n can = omega arith
+takes_enough c n can = omega arith
 
 least_total : (ps : List Positional) (shares : List ℕ) → AllZip (λ p n. CanTake p.count n) ps shares → least ps ≤ total shares
 least_total [] [] each = omega arith
@@ -151,8 +134,7 @@ first_is at_most_once n others least_others spare can room all enough = go n can
     go : (n : ℕ) → n ≤ 1 → ((n == 0) ≡ true → others ≡ least_others) → n + others ≡ 0 + least_others + spare → n ≡ 0 + min 1 spare
     go zero can room all = let same = room refl in omega (arith, same)
     go (suc m) can room all = omega arith
-first_is any_number n others least_others spare can room all enough = let same = room refl in omega (arith, same)
-first_is at_least_once n others least_others spare can room all enough = let same = room refl in omega (arith, same)
+first_is c n others least_others spare can room all enough = let same = room refl in omega (arith, same)
 
 are_greedy : (ps : List Positional) (spare : ℕ) (shares : List ℕ) → AllZip (λ p n. CanTake p.count n) ps shares → total shares ≡ least ps + spare → AreFirst ps shares → shares ≡ greedy ps spare
 are_greedy [] spare [] each all first = refl

@@ -1,19 +1,19 @@
--- The names of options that can be declared together.
-use Rattle.std.proofs.Common.{◌≡◌, ◌≢◌, ℕ, Bool, true, false, ◌==◌, ◌||◌, List, [], ◌∷◌, map, get_or, position, slice_get, take, Option, Some, None, is_none, cond, refl, sym, ap, ◌∙◌}
-use Rattle.std.specs.List.{Contains, list_any}
-use Rattle.std.proofs.lemmas.Bool.{false≢true, eq-eqb}
+-- The names and the defaults of options that can be declared together.
+use Rattle.std.proofs.Common.{◌≡◌, ◌≢◌, ℕ, Bool, true, false, ◌==◌, ◌||◌, ◌&&◌, List, [], ◌∷◌, map, get_or, position, slice_get, take, Option, Some, None, cond, refl, sym, ap, subst, ◌∙◌}
+use Rattle.std.specs.List.{Contains, list_all, list_any}
+use Rattle.std.proofs.lemmas.Bool.{false≢true, and_parts, eq-eqb}
 use Rattle.std.proofs.lemmas.List.Folds.{list_any_at}
 use Rattle.std.proofs.lemmas.List.Quantifiers.{position-Some}
 use Rattle.std.proofs.lemmas.Option.{get_or_from_slice_get, same_Some, slice_get-get_or, slice_get_within}
 use Rattle.lexopt_spec.specs.Pieces.{replacement, lossy_characters}
 use Rattle.lexopt_spec.specs.UnreadLine.{dash, equals}
 use Rattle.lexopt_line_spec.specs.Table as spec
-use Rattle.lexopt_line_spec.specs.Table.{Name, short, long, Item}
+use Rattle.lexopt_line_spec.specs.Table.{Name, short, long, Item, Kind}
 use Rattle.lexopt_line_spec.specs.Spelling.{IsWholeName, HaveWholeNames}
-use Rattle.lexopt_options_spec.specs.Declaration.{Declared, Reason, has, all_names, has_name, is_empty, is_name, is_one_of, index_of, name_fault, names_fault, or_else, fault, is_sound}
-use Rattle.std.specs.Option.{option_map}
+use Rattle.lexopt_options_spec.specs.Declaration.{Declared, Reason, Words, accepts, bad_default, is_default, has, all_names, has_name, is_empty, is_name, is_one_of, index_of, name_fault, names_fault, is_sound}
+use Rattle.std.specs.Option.{option_map, option_to_list}
 use Rattle.lexopt_options_spec.specs.Legal.{Parsed, option, several, parsed_item}
-use Rattle.lexopt_options_spec.proofs.FaultLemmas.{declared_at}
+use Rattle.lexopt_options_spec.proofs.FaultLemmas.{IsFaultless, faultless_at, neither}
 use Rattle.lexopt_options_spec.proofs.Lists.{first_same}
 use Rattle.lexopt_options_spec.proofs.Tables.{name_is}
 
@@ -26,16 +26,8 @@ none_and : (b : Bool) (r : Reason) (rest : Option Reason) → cond b (Some r) re
 none_and true r rest is = absurd (let e : Some r ≡ None = is in cc)
 none_and false r rest is = (refl, is)
 
-pub neither : (a b : Option Reason) → or_else a b ≡ None → (a ≡ None) × (b ≡ None)
-neither None b is = (refl, is)
-neither (Some r) b is = absurd (let e : Some r ≡ None = is in cc)
-
 differ : (a b : ℕ) → (a == b) ≡ false → a ≢ b
 differ a b is same = false≢true (sym is ∙ eq-eqb a b same)
-
-pub no_fault : (f : Option Reason) → is_none f ≡ true → f ≡ None
-no_fault None is = refl
-no_fault (Some r) is = absurd (false≢true is)
 
 not_among : (c : ℕ) (l : List ℕ) → has c l ≡ false → ¬ Contains l c
 not_among c l is among =
@@ -82,17 +74,35 @@ option_there (o ∷ os) name i is =
     (get_or (o ∷ os) i o, slice_get-get_or (o ∷ os) i o at.0, at.1)
 
 -- nothing is wrong with an option that is declared
-pub none_wrong : (options : List Declared) (i : ℕ) (o : Declared) → is_sound options ≡ true → slice_get options i ≡ Some o → fault (take i options) o ≡ None
+pub none_wrong : (options : List Declared) (i : ℕ) (o : Declared) → is_sound options ≡ true → slice_get options i ≡ Some o → IsFaultless (take i options) o
 none_wrong options i o sound at =
-    no_fault (fault (take i options) o)
-    (ap (λ p. is_none (fault (take i options) p)) (sym (get_or_from_slice_get options i o o at)) ∙ declared_at options i o sound (slice_get_within options i o at))
+    subst (λ p. IsFaultless (take i options) p) (get_or_from_slice_get options i o o at) (faultless_at options i o sound (slice_get_within options i o at))
+
+no_bad_default : (b : Bool) → cond b None (Some bad_default) ≡ None → b ≡ true
+no_bad_default true is = refl
+no_bad_default false is = absurd (let e : Some bad_default ≡ None = is in cc)
+
+default_parts : (k : Kind) (required : Bool) (words : Words) (value : List ℕ) → is_default k required words value ≡ true → (k ≡ spec.one) × (required ≡ false) × (accepts words value ≡ true)
+default_parts spec.one false words value is = (refl, refl, is)
+default_parts spec.one true words value is = absurd (false≢true is)
+default_parts spec.flag required words value is = absurd (false≢true is)
+default_parts spec.optional required words value is = absurd (false≢true is)
+default_parts spec.several required words value is = absurd (false≢true is)
+
+-- an option with a default has one value, is not required, and accepts the default
+pub default_fits : (options : List Declared) (i : ℕ) (o : Declared) (value : List ℕ) → is_sound options ≡ true → slice_get options i ≡ Some o → o.default ≡ Some value
+    → (o.kind ≡ spec.one) × (o.required ≡ false) × (accepts o.words value ≡ true)
+default_fits options i o value sound at is =
+    let fine = no_bad_default _ (none_wrong options i o sound at).default in
+    let alone : (is_default o.kind o.required o.words value && true) ≡ true = sym (ap (λ d. list_all (is_default o.kind o.required o.words) (option_to_list d)) is) ∙ fine in
+    default_parts o.kind o.required o.words value (and_parts (is_default o.kind o.required o.words value) true alone).0
 
 -- the names of these options can be declared
 pub good : (options : List Declared) (name : Name) (i : ℕ) → is_sound options ≡ true → index_of options name ≡ Some i → IsGoodName name
 good options name i sound is =
     let there = option_there options name i is in
     let none = none_wrong options i there.0 sound there.1 in
-    good_name name (names_fine (all_names there.0) name (neither (names_fault name_fault (all_names there.0)) _ none).0 there.2)
+    good_name name (names_fine (all_names there.0) name none.names there.2)
 
 -- ---- what is read has names that can be declared
 

@@ -1,20 +1,13 @@
 -- What a word is, by the state that the words before it leave.
-use Rattle.std.proofs.Common.{if◌then◌else◌, ◌≡◌, ◌≢◌, ◌≤◌, ◌+◌, ◌==◌, ◌⊎◌, ◌↔◌, ℕ, Bool, true, false, List, [], ◌∷◌, ◌++◌, map, length, Option, Some, None, refl, sym, ap, subst, ◌∙◌, inl, inr, arith, append_assoc, length-append, true≢false}
+use Rattle.lexopt_options_spec.proofs.Common.{if◌then◌else◌, ◌≡◌, ◌≢◌, ◌≤◌, ◌+◌, ◌==◌, ◌⊎◌, ◌↔◌, ℕ, Bool, true, false, List, [], ◌∷◌, ◌++◌, map, length, Option, Some, None, refl, sym, ap, subst, ◌∙◌}
+use Rattle.lexopt_options_spec.proofs.Common.{inl, inr, arith, append_assoc, length-append, true≢false, eqb-true, false≢true, eqb_tells, append-nil, dash, no_tail, BeginsWith, IsPlain, TailFits}
+use Rattle.lexopt_options_spec.proofs.Common.{UnreadLine, start, Item, Table, next_same, Declaration, table, Parsed, parsed_item, positional_count, positional_words, most, IsWithin, MeansFront}
+use Rattle.lexopt_options_spec.proofs.Common.{EndsWith, Extends, HasRole, IsOpen, argument, value, role_of, State, Says, SaysOpenly, Leaves, leaves_anything, leaves_due, leaves_first, leaves_further}
+use Rattle.lexopt_options_spec.proofs.Common.{leaves_ended, LeadsNowhere, opens, is_full, room, role_in}
 use Rattle.std.specs.Bool.{IsTrue}
-use Rattle.std.proofs.lemmas.Bool.{eqb-true, false≢true}
-use Rattle.std.proofs.lemmas.Bool.Decides.{eqb_tells}
-use Rattle.std.proofs.lemmas.List.{append-nil}
-use Rattle.lexopt_spec.specs.UnreadLine.{dash, no_tail, BeginsWith, IsPlain, TailFits, UnreadLine}
 use Rattle.lexopt_spec.specs.Steps as steps
 use Rattle.lexopt_spec.specs.Steps.{NextStep}
-use Rattle.lexopt_line_spec.specs.Readings.{start}
-use Rattle.lexopt_line_spec.specs.Table.{Item, Table}
-use Rattle.lexopt_line_spec.proofs.Exact.{next_same}
-use Rattle.lexopt_options_spec.specs.Declaration.{Declaration, table}
 use Rattle.lexopt_options_spec.specs.Legal as legal
-use Rattle.lexopt_options_spec.specs.Legal.{Parsed, parsed_item, positional_count, positional_words, most, IsWithin, MeansFront}
-use Rattle.lexopt_options_spec.specs.Completion.{EndsWith, Extends, HasRole, IsOpen, argument, value, role_of}
-use Rattle.lexopt_options_spec.specs.States.{State, Says, SaysOpenly, Leaves, leaves_anything, leaves_due, leaves_first, leaves_further, leaves_ended, LeadsNowhere, opens, is_full, room, role_in}
 use Rattle.lexopt_options_spec.proofs.Fronts.{Rest, rest_of, same_parsed, spelled_read}
 use Rattle.lexopt_options_spec.proofs.Growing.{EndsSo, ended_before, open_there as line_open, separator_last, ends_so, adds_word, items_calm, longer}
 use Rattle.lexopt_options_spec.proofs.Lists.{Ending, has_none, has_last, ending, count_append, same_last}
@@ -53,22 +46,19 @@ says_open d words l says within = record {
 
 pub open_there : (d : Declaration) (words : List (List ℕ)) (l : List Parsed) (s : State) → Leaves d words l s → IsWithin (positional_count l) (most d.positionals) → opens s ≡ true → IsOpen d words l
 open_there d words l s (leaves_anything says plain) within is = says_open d words l says within
-open_there d words l s (leaves_due i none all) within is = absurd (false≢true is)
-open_there d words l s (leaves_first i none plain never) within is = absurd (false≢true is)
 open_there d words l s (leaves_further i before values are says plain) within is = says_open d words l says within
-open_there d words l s (leaves_ended says all) within is = absurd (false≢true is)
+open_there d words l s leaves within is = absurd (false≢true is)
 
 pub never_open : (d : Declaration) (words : List (List ℕ)) (l : List Parsed) (s : State) → Leaves d words l s → opens s ≡ false → (m : List Parsed) → IsOpen d words m → ⊥
-never_open d words l s (leaves_anything says plain) is m is_open = true≢false is
 never_open d words l s (leaves_due i none all) is m is_open = none m is_open.front
 never_open d words l s (leaves_first i none plain never) is m is_open = none m is_open.front
-never_open d words l s (leaves_further i before values are says plain) is m is_open = true≢false is
 never_open d words l s (leaves_ended says all) is m is_open =
     let a = says_once d words l m says (front_says d words m is_open.front) in
     let b = says_once d (words ++ dashes ∷ []) (l ++ legal.positional dashes ∷ []) m (all dashes) (front_says d (words ++ dashes ∷ []) m is_open.with_separator) in
     let e = ap length (a ∙ sym b) in
     let f = length-append l (legal.positional dashes ∷ []) in
     omega (arith, e, f)
+never_open d words l s leaves is m is_open = true≢false is
 
 -- ---- what a word is
 

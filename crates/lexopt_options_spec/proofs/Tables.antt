@@ -8,8 +8,8 @@ use Rattle.std.specs.Prelude.{Any, Contains, is_none}
 use Rattle.std.specs.List.{list_any}
 use Rattle.std.specs.Cmp.Lexicographic.{pointwise, same_text}
 use Rattle.lexopt_line_spec.specs.Table.{Name, short, long, Kind, flag, one, optional, several, holds_in, kind}
-use Rattle.lexopt_options_spec.specs.Declaration.{Declared, all_names, has_name, index_of, is_name, is_one_of, if_kind, shorts_in, longs_in, shorts_of, longs_of, table, Reason, same_name, is_sound, shares_name, or_else, name_fault, names_fault, placeholder_fault, list_fault}
-use Rattle.lexopt_options_spec.proofs.FaultLemmas.{declared_at}
+use Rattle.lexopt_options_spec.specs.Declaration.{Declared, all_names, has_name, index_of, is_name, is_one_of, if_kind, shorts_in, longs_in, shorts_of, longs_of, table, is_sound, shares_name}
+use Rattle.lexopt_options_spec.proofs.FaultLemmas.{faultless_at}
 
 -- ---- names
 
@@ -103,13 +103,6 @@ holds_any k (long name) (o ∷ os) =
 
 -- ---- no two options have a name in common
 
-not_shared : (f g h : Option Reason) (b : Bool) → is_none (or_else f (or_else g (or_else h (cond b (Some same_name) None)))) ≡ true → b ≡ false
-not_shared f g h false e = refl
-not_shared None None None true e = sym e
-not_shared None None (Some r) true e = sym e
-not_shared None (Some r) h true e = sym e
-not_shared (Some r) g h true e = sym e
-
 -- an option has no name of one before it
 names_apart : (options : List Declared) (name : Name) (j i : ℕ) (d : Declared) → is_sound options ≡ true → j < i → i < length options → has_name name (get_or options i d) ≡ true
     → has_name name (get_or options j d) ≡ false
@@ -122,7 +115,7 @@ names_apart options name j i d sound less within has = false_from_ne_true _ (λ 
     earlier = let all = length-take-le i options (omega (arith, within)) in omega (arith, all, less)
 
     alone : list_any (shares_name o) (take i options) ≡ false
-    alone = not_shared (names_fault name_fault (all_names o)) (placeholder_fault o.kind o.placeholder) (list_fault o.words) _ (declared_at options i d sound within)
+    alone = (faultless_at options i d sound within).alone
 
     shared : has_name name (get_or options j d) ≡ true → shares_name o (get_or (take i options) j d) ≡ true
     shared there = ap (shares_name o) (get_or-take i options j d less) ∙ any_named name (λ n. has_name n (get_or options j d)) (all_names o) has there

@@ -1,31 +1,25 @@
 -- Which words are accepted by the positionals that they belong to.
-use Rattle.std.proofs.Common.{◌≡◌, ◌≤◌, ◌<◌, ◌+◌, ◌-◌, ◌⊎◌, ℕ, zero, suc, Bool, true, false, List, [], ◌∷◌, ◌++◌, map, length, max, min, drop, length-drop, take, take-take, take_all, replicate, slice_get, Option, Some, None, is_none, cond, unwrap_or, refl, sym, ap, subst, ◌∙◌, arith, inl, inr, ⊎_elim, length-append}
-use Rattle.std.proofs.lemmas.Bool.{and_parts, cases_lt, false≢true}
-use Rattle.std.proofs.lemmas.List.{length-map, length-replicate}
+use Rattle.lexopt_options_spec.proofs.Common.{◌≡◌, ◌≤◌, ◌<◌, ◌+◌, ◌-◌, ◌⊎◌, ℕ, zero, suc, Bool, true, false, List, [], ◌∷◌, ◌++◌, map, length, max, min, drop, length-drop, take, take-take, take_all}
+use Rattle.lexopt_options_spec.proofs.Common.{replicate, slice_get, Option, Some, None, is_none, cond, unwrap_or, refl, sym, ap, subst, ◌∙◌, arith, inl, inr, ⊎_elim, length-append, and_parts}
+use Rattle.lexopt_options_spec.proofs.Common.{cases_lt, false≢true, length-map, length-replicate, take-append-le, take-replicate, sum_by, option_map, Count, Positional, once, at_most_once, any_number}
+use Rattle.lexopt_options_spec.proofs.Common.{at_least_once, are_listable, list_fault, CanBeTaken, IsWithin, Parsed, positional, most, positional_count, positional_words, AreShares, AreTaken}
+use Rattle.lexopt_options_spec.proofs.Common.{ArePlaces, IsNotTaken, extra, greedy, least, needs, owners, refused_word, takes_at}
 use Rattle.std.proofs.lemmas.List.Sums.{sum_by-cons}
-use Rattle.std.specs.List.{sum_by}
-use Rattle.std.specs.Option.{option_map}
-use Rattle.lexopt_options_spec.specs.Declaration.{Count, Positional, once, at_most_once, any_number, at_least_once, are_listable, list_fault}
-use Rattle.lexopt_options_spec.specs.Completion.{CanBeTaken}
-use Rattle.lexopt_options_spec.specs.Legal.{IsWithin, Parsed, option, several, positional, most, positional_count, positional_words}
-use Rattle.lexopt_options_spec.specs.Places.{AreShares, AreTaken, ArePlaces, IsNotTaken, extra, greedy, least, needs, owners, refused_word, takes_at}
 use Rattle.lexopt_options_spec.proofs.Listed.{value_fits, value_for}
 use Rattle.lexopt_options_spec.proofs.Shares.{least_within, one_places, places_are, some_places}
-use Rattle.lexopt_options_spec.proofs.Sound.{no_fault}
+use Rattle.lexopt_options_spec.proofs.FaultLemmas.{no_fault}
 
 -- ---- the words of the positionals that are read
 
 pub words_count : (l : List Parsed) → length (positional_words l) ≡ positional_count l
 words_count [] = refl
-words_count (option i v ∷ l) = let rest = words_count l in omega (arith, rest)
-words_count (several i vs ∷ l) = let rest = words_count l in omega (arith, rest)
 words_count (positional w ∷ l) = let rest = words_count l in omega (arith, rest)
+words_count (s ∷ l) = let rest = words_count l in omega (arith, rest)
 
 pub words_append : (l m : List Parsed) → positional_words (l ++ m) ≡ positional_words l ++ positional_words m
 words_append [] m = refl
-words_append (option i v ∷ l) m = words_append l m
-words_append (several i vs ∷ l) m = words_append l m
 words_append (positional w ∷ l) m = ap (λ ws. w ∷ ws) (words_append l m)
+words_append (s ∷ l) m = words_append l m
 
 pub words_same : (words : List (List ℕ)) → positional_words (map positional words) ≡ words
 words_same [] = refl
@@ -68,11 +62,10 @@ taken_first false o p is none = absurd (false≢true is)
 
 -- the words before others are accepted too
 refused_front : (ps : List Positional) (places : List ℕ) (words more : List (List ℕ)) → refused_word ps places (words ++ more) ≡ None → refused_word ps places words ≡ None
-refused_front ps [] words more is = refl
-refused_front ps (i ∷ places) [] more is = refl
 refused_front ps (i ∷ places) (w ∷ words) more is =
     let parts = none_first (takes_at ps i w) (refused_word ps places (words ++ more)) (i, w) is in
     taken_first (takes_at ps i w) (refused_word ps places words) (i, w) parts.0 (refused_front ps places words more parts.1)
+refused_front ps places words more is = refl
 
 pub can_be_taken : (ps : List Positional) (words more : List (List ℕ)) → IsWithin (length (words ++ more)) (most ps) → AreTaken ps (words ++ more) → CanBeTaken ps words
 can_be_taken ps words more within taken = record {
@@ -87,12 +80,11 @@ can_be_taken ps words more within taken = record {
 -- the places of later words do not matter
 pub refused_take : (ps : List Positional) (places : List ℕ) (words : List (List ℕ)) (n : ℕ) → length words ≤ n → refused_word ps (take n places) words ≡ refused_word ps places words
 refused_take ps [] words zero small = refl
-refused_take ps [] words (suc n) small = refl
 refused_take ps (i ∷ places) [] zero small = refl
-refused_take ps (i ∷ places) [] (suc n) small = refl
 refused_take ps (i ∷ places) (w ∷ words) zero small = absurd (omega (arith, small))
 refused_take ps (i ∷ places) (w ∷ words) (suc n) small =
     ap (λ o. cond (takes_at ps i w) o (Some (i, w))) (refused_take ps places words n (omega (arith, small)))
+refused_take ps places words n small = refl
 
 -- ---- words for the remaining places
 
@@ -164,9 +156,7 @@ filled ps words good can =
 -- ---- how many more words are enough
 
 take_replicate : (k n i : ℕ) (rest : List ℕ) → k ≤ n → take k (replicate n i ++ rest) ≡ replicate k i
-take_replicate zero n i rest small = refl
-take_replicate (suc k) zero i rest small = absurd (omega (arith, small))
-take_replicate (suc k) (suc n) i rest small = ap (λ l. i ∷ l) (take_replicate k n i rest (omega (arith, small)))
+take_replicate k n i rest small = take-append-le k (replicate n i) rest (rw length-replicate small) ∙ take-replicate k n i small
 
 one_more : (k s i : ℕ) (rest : List ℕ) → suc k ≤ s → take (suc k) (replicate (0 + min 1 s) i ++ rest) ≡ i ∷ take k rest
 one_more k s i rest small = let one : 0 + min 1 s ≡ 1 = omega (arith, small) in ap (λ n. take (suc k) (replicate n i ++ rest)) one
@@ -221,6 +211,5 @@ places_spare ps k count places longer within are = (
 
 pub slice_get_take : (k : ℕ) (l : List ℕ) (n : ℕ) → n < k → slice_get (take k l) n ≡ slice_get l n
 slice_get_take zero l n small = absurd (omega (arith, small))
-slice_get_take (suc k) [] n small = refl
-slice_get_take (suc k) (x ∷ l) zero small = refl
 slice_get_take (suc k) (x ∷ l) (suc n) small = slice_get_take k l n (omega (arith, small))
+slice_get_take k l n small = refl

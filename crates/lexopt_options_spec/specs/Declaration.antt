@@ -2,7 +2,7 @@
 -- `docs/behaviour.md`. Names are without their dashes, texts are their UTF-8.
 use Rattle.std.specs.Prelude.{◌≡◌, ℕ, Bool, true, false, ◌==◌, ◌||◌, ◌&&◌, not, List, [], ◌∷◌, ◌++◌}
 use Rattle.std.specs.Prelude.{Option, Some, None, is_none, position, slice_get, take, if◌then◌else◌}
-use Rattle.std.specs.Prelude.{filter, length, map, nat_lt}
+use Rattle.std.specs.Prelude.{codes, filter, length, map, nat_lt}
 use Rattle.std.specs.Option.{option_to_list}
 use Rattle.std.specs.List.{flat_map, list_all, list_any}
 use Rattle.std.specs.Cmp.Lexicographic.{pointwise}
@@ -10,9 +10,16 @@ use Rattle.lexopt_spec.specs.Pieces.{replacement, lossy_characters}
 use Rattle.lexopt_spec.specs.UnreadLine.{dash, equals}
 use Rattle.lexopt_line_spec.specs.Table.{Name, short, long, Kind, flag, one, optional, several, Table}
 
+-- how much the help tells
+pub data Detail : Type 0 where
+  -- without the longer help texts of options, and without the epilogue
+  brief : Detail
+  full : Detail
+
 -- what an option asks for instead of the program's work
 pub data Asked : Type 0 where
   for_help : Asked
+  for_brief_help : Asked
   -- the version, which is this text
   for_version : List ℕ → Asked
 
@@ -32,6 +39,14 @@ abbrev pub accepts : Words → List ℕ → Bool
 accepts (listed words) value = list_any (λ w. pointwise ◌==◌ w value) words
 accepts words value = true
 
+-- what the label of an option shows beside its own names
+pub data Beside : Type 0 where
+  nothing : Beside
+  -- a flag before it, by this character
+  a_flag : ℕ → Beside
+  -- its negation: a flag before it whose name is `no-` and then the long name of the option
+  negation : Beside
+
 -- an option, with at least one name
 pub record Declared : Type 0 where
   pub short_name : Option ℕ
@@ -41,6 +56,8 @@ pub record Declared : Type 0 where
   pub placeholder : List ℕ
   -- its help text
   pub help : List ℕ
+  -- a longer help text, which the full help shows instead; empty if it has none
+  pub details : List ℕ
   -- what it asks for, if anything
   pub asks : Option Asked
   -- its heading in the help; empty if it has none
@@ -49,12 +66,16 @@ pub record Declared : Type 0 where
   pub hidden : Bool
   -- every legal line has it
   pub required : Bool
+  -- the value that it has where a line does not have it, if there is one
+  pub default : Option (List ℕ)
   -- what its values may be
   pub words : Words
   -- the help leaves out the list of its values
   pub hides_list : Bool
   -- further names, by which lines may have it, and which are offered only where they are typed whole
   pub aliases : List Name
+  -- what its label shows beside its own names
+  pub beside : Beside
 
 -- how often a positional may occur
 pub data Count : Type 0 where
@@ -191,6 +212,11 @@ pub data Reason : Type 0 where
   -- the list of its values is empty, or one of them is empty, begins with `-` or `=`, or has a
   -- blank or a control character
   bad_list : Reason
+  -- it has a default, but is required, does not always have one value, or does not accept it
+  bad_default : Reason
+  -- what its label shows beside its names is not a flag before it, or it has no long name, or has a
+  -- character where its label shows that of a flag
+  bad_label : Reason
   -- an option before it has one of its names
   same_name : Reason
 
@@ -239,6 +265,39 @@ list_fault (listed []) = Some bad_list
 list_fault (listed words) = if list_all is_listable words then None else Some bad_list
 list_fault words = None
 
+-- an option can have this default, by its kind, by whether it is required, and by what it accepts
+abbrev pub is_default : Kind → Bool → Words → List ℕ → Bool
+is_default one false words value = accepts words value
+is_default k required words value = false
+
+abbrev pub default_fault : Declared → Option Reason
+default_fault o = if list_all (is_default o.kind o.required o.words) (option_to_list o.default)
+    then None else Some bad_default
+
+-- the long name of the negation of an option with this long name
+abbrev pub negated : List ℕ → List ℕ
+negated name = codes "no-" ++ name
+
+-- the name of the flag that the label of an option with these names shows beside them
+abbrev pub name_beside : Beside → Option ℕ → Option (List ℕ) → Option Name
+name_beside (a_flag c) None (Some name) = Some (short c)
+name_beside negation c (Some name) = Some (long (negated name))
+name_beside b c name = None
+
+abbrev pub is_flag : Kind → Bool
+is_flag flag = true
+is_flag k = false
+
+-- a flag among these has this name, if it is one
+abbrev pub have_flag : List Declared → Option Name → Bool
+have_flag options None = false
+have_flag options (Some name) = list_any (λ o. is_flag o.kind && has_name name o) options
+
+-- why an option after these cannot have this beside its names, if that is the name of the flag
+abbrev pub label_fault : List Declared → Beside → Option Name → Option Reason
+label_fault before nothing name = None
+label_fault before b name = if have_flag before name then None else Some bad_label
+
 -- the first of these reasons, if there is one
 abbrev pub or_else : Option Reason → Option Reason → Option Reason
 or_else None other = other
@@ -261,7 +320,9 @@ shares_name o other = share (all_names o) (all_names other)
 abbrev pub fault_by : (Name → Option Reason) → List Declared → Declared → Option Reason
 fault_by fault_of before o = or_else (names_fault fault_of (all_names o))
     (or_else (placeholder_fault o.kind o.placeholder) (or_else (list_fault o.words)
-    (if list_any (shares_name o) before then Some same_name else None)))
+    (or_else (default_fault o)
+    (or_else (label_fault before o.beside (name_beside o.beside o.short_name o.long_name))
+    (if list_any (shares_name o) before then Some same_name else None)))))
 
 -- why this option cannot be declared after those before it
 abbrev pub fault : List Declared → Declared → Option Reason

@@ -1,9 +1,9 @@
 -- The declarations of the worked examples.
-use Rattle.std.specs.Prelude.{ℕ, List, [], ◌∷◌, Option, None, Some, codes, false, true}
+use Rattle.std.specs.Prelude.{Bool, ℕ, List, [], ◌∷◌, Option, None, Some, codes, false, true}
 use Rattle.lexopt_line_spec.specs.Table.{Kind, Name, flag, long, one, optional, short}
 use Rattle.lexopt_options_spec.specs.Completion.{Joined}
-use Rattle.lexopt_options_spec.specs.Declaration.{Declaration, Declared, Positional, Words, files}
-use Rattle.lexopt_options_spec.specs.Declaration.{listed, once}
+use Rattle.lexopt_options_spec.specs.Declaration.{Beside, Declaration, Declared, Positional, Words}
+use Rattle.lexopt_options_spec.specs.Declaration.{files, listed, nothing, once}
 
 -- a required option
 abbrev pub demanded_option : Option ℕ → Option (List ℕ) → Kind → List ℕ → Declared
@@ -13,13 +13,16 @@ demanded_option c name kind placeholder = record {
   kind = kind;
   placeholder = placeholder;
   help = [];
+  details = [];
   asks = None;
   heading = [];
   hidden = false;
   required = true;
+  default = None;
   words = files;
   hides_list = false;
   aliases = [];
+  beside = nothing;
 }
 
 -- the flag `-v`
@@ -39,10 +42,22 @@ color = record (also (short 0x43 ∷ long (codes "colour") ∷ []) voluntary_opt
   placeholder = codes "WHEN";
 }
 
+-- `--color[=WHEN]`, whose label shows this too, and which may be hidden
+abbrev pub other_form : Beside → Bool → Declared
+other_form b hidden = record color { beside = b; hidden = hidden }
+
 -- an option whose values may be these
 abbrev pub option_of : Option (List ℕ) → Words → Declared
 option_of name words =
     record (demanded_option (Some 0x6D) name one (codes "MODE")) { words = words }
+
+-- an option that has this default, and accepts two values
+abbrev pub with_default_of : List ℕ → Declared
+with_default_of value =
+    record (option_of None (listed (codes "fast" ∷ codes "slow" ∷ []))) {
+      required = false;
+      default = Some value;
+    }
 
 -- a positional that occurs once
 abbrev pub positional_of : List ℕ → List ℕ → Words → Positional

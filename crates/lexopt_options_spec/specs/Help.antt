@@ -1,13 +1,13 @@
 -- The help of declared options: lines of words, labels, entries, the usage, and the whole. The
 -- source is `docs/behaviour.md`, which follows the GNU Coding Standards and the output of
 -- `ls --help`. Texts are their UTF-8. Columns are counted from 0.
-use Rattle.std.specs.Prelude.{◌≡◌, ◌≤◌, ◌<◌, ◌⊎◌, ℕ, Bool, false, true, ◌+◌, ◌-◌, ◌/◌, min, nat_le, ◌==◌, not}
+use Rattle.std.specs.Prelude.{◌≡◌, ◌≤◌, ◌<◌, ◌⊎◌, ℕ, Bool, false, true, ◌+◌, ◌-◌, ◌/◌, min, nat_le, ◌==◌, ◌&&◌, not}
 use Rattle.std.specs.Prelude.{if◌then◌else◌, List, [], ◌∷◌, ◌++◌, length, take, drop, filter, replicate}
 use Rattle.std.specs.Prelude.{codes, encode_utf8, map, Option, Some, None}
 use Rattle.std.specs.Char.{IsScalar}
 use Rattle.std.specs.Str.{IsUtf8, chars}
 use Rattle.std.specs.List.{AllZip, concat, ends_with, flat_map, join_by, join_with_byte, slice_split}
-use Rattle.std.specs.List.{starts_with, sum_by}
+use Rattle.std.specs.List.{list_any, starts_with, sum_by}
 use Rattle.bstr.specs.Unicode.{grapheme_spans}
 use Rattle.lexopt_spec.specs.Text.{escaped}
 use Rattle.lexopt_spec.specs.UnreadLine.{dash, equals}
@@ -16,7 +16,8 @@ use Rattle.lexopt_line_spec.specs.Table.{Item, Name, option, many, positional, s
 use Rattle.lexopt_line_spec.specs.Table.{Kind, flag, one, optional, several}
 use Rattle.lexopt_options_spec.specs.Declaration.{Declared, Declaration, Positional, Count, once}
 use Rattle.lexopt_options_spec.specs.Declaration.{at_least_once, at_most_once, any_number, is_empty}
-use Rattle.lexopt_options_spec.specs.Declaration.{Words, listed}
+use Rattle.lexopt_options_spec.specs.Declaration.{Beside, Detail, Words, a_flag, brief, full}
+use Rattle.lexopt_options_spec.specs.Declaration.{has_name, listed, name_beside, negated, negation}
 
 -- ---- columns
 
@@ -60,16 +61,26 @@ abbrev pub before_long : Kind → List ℕ → List ℕ
 before_long optional value = codes "[" ++ value ++ codes "]"
 before_long k value = []
 
--- the label; a long name alone is indented to the column of the long names of other options
-abbrev pub label_of : Option ℕ → Option (List ℕ) → Kind → List ℕ → List ℕ
-label_of None None k value = []
-label_of (Some c) None k value = codes "-" ++ encode_utf8 c ++ after_short k value
-label_of None (Some name) k value = codes "    --" ++ name ++ after_long k value
-label_of (Some c) (Some name) k value =
-    codes "-" ++ encode_utf8 c ++ before_long k value ++ codes ", --" ++ name ++ after_long k value
+-- a long name with its dashes, and with the negation if that is shown beside it
+abbrev pub long_shown : Beside → List ℕ → List ℕ
+long_shown negation name = codes "--[no-]" ++ name
+long_shown b name = codes "--" ++ name
+
+-- what comes before a long name, if the option has no character: the flag that is shown beside it,
+-- or blanks up to the column of the long names of other options
+abbrev pub before_alone : Beside → List ℕ
+before_alone (a_flag c) = codes "-" ++ encode_utf8 c ++ codes ", "
+before_alone b = codes "    "
+
+abbrev pub label_of : Beside → Option ℕ → Option (List ℕ) → Kind → List ℕ → List ℕ
+label_of b None None k value = []
+label_of b (Some c) None k value = codes "-" ++ encode_utf8 c ++ after_short k value
+label_of b None (Some name) k value = before_alone b ++ (long_shown b name ++ after_long k value)
+label_of b (Some c) (Some name) k value = codes "-" ++ encode_utf8 c ++ before_long k value
+    ++ codes ", " ++ (long_shown b name ++ after_long k value)
 
 abbrev pub label : Declared → List ℕ
-label o = label_of o.short_name o.long_name o.kind o.placeholder
+label o = label_of o.beside o.short_name o.long_name o.kind o.placeholder
 
 -- ---- the forms that a label shows
 
@@ -116,23 +127,31 @@ pub data LabelForm (o : Declared) : List ℕ → List (List ℕ) → Item → Ty
       (short_word c [] ∷ o.placeholder ∷ []) (many (short c) (o.placeholder ∷ []))
   -- `--verbose`
   long_flag : (name : List ℕ) → o.long_name ≡ Some name → o.kind ≡ flag
-      → LabelForm o (long_word name) (long_word name ∷ []) (option (long name) None)
+      → LabelForm o (long_shown o.beside name) (long_word name ∷ []) (option (long name) None)
   -- `--output=FILE`
   long_one : (name : List ℕ) → o.long_name ≡ Some name → o.kind ≡ one
-      → LabelForm o (long_word_with name o.placeholder)
+      → LabelForm o (long_shown o.beside name ++ equals ∷ o.placeholder)
       (long_word_with name o.placeholder ∷ []) (option (long name) (Some o.placeholder))
   -- `--backup[=SUFFIX]`, without what is in brackets
   long_optional : (name : List ℕ) → o.long_name ≡ Some name → o.kind ≡ optional
-      → LabelForm o (long_word name ++ in_brackets (equals ∷ o.placeholder))
+      → LabelForm o (long_shown o.beside name ++ in_brackets (equals ∷ o.placeholder))
       (long_word name ∷ []) (option (long name) None)
   -- `--backup[=SUFFIX]`, with it
   long_optional_value : (name : List ℕ) → o.long_name ≡ Some name → o.kind ≡ optional
-      → LabelForm o (long_word name ++ in_brackets (equals ∷ o.placeholder))
+      → LabelForm o (long_shown o.beside name ++ in_brackets (equals ∷ o.placeholder))
       (long_word_with name o.placeholder ∷ []) (option (long name) (Some o.placeholder))
   -- `--exclude PATTERN...`
   long_several : (name : List ℕ) → o.long_name ≡ Some name → o.kind ≡ several
-      → LabelForm o (long_word name ++ (codes " " ++ o.placeholder ++ codes "..."))
+      → LabelForm o (long_shown o.beside name ++ (codes " " ++ o.placeholder ++ codes "..."))
       (long_word name ∷ o.placeholder ∷ []) (many (long name) (o.placeholder ∷ []))
+  -- `-F` before `--classify[=WHEN]`, which is a flag of its own
+  flag_beside : (c : ℕ) (name : List ℕ) → o.beside ≡ a_flag c → o.short_name ≡ None
+      → o.long_name ≡ Some name
+      → LabelForm o (short_word c []) (short_word c [] ∷ []) (option (short c) None)
+  -- `--[no-]color`, with what is in brackets
+  negated_flag : (name : List ℕ) → o.beside ≡ negation → o.long_name ≡ Some name
+      → LabelForm o (codes "--[no-]" ++ name)
+      (long_word (negated name) ∷ []) (option (long (negated name)) None)
 
 -- an option of this kind can spell this item by this name, with something after it
 abbrev pub CanSay : Kind → Name → Item → Type 0
@@ -152,10 +171,11 @@ abbrev pub ShowsName : Declared → Name → List ℕ → Type 0
 ShowsName o name shown = (item : Item) → CanSay o.kind name item → HasOnly o.placeholder item
     → (words : List (List ℕ)) × LabelForm o shown words item
 
--- its names are text, as a `char` or a `&str` is
+-- its names are text, as a `char` or a `&str` is, and so is a character that its label shows
 pub record HasTextNames (o : Declared) : Type 0 where
   pub short_scalar : (c : ℕ) → o.short_name ≡ Some c → IsScalar c
   pub long_text : (name : List ℕ) → o.long_name ≡ Some name → IsUtf8 name
+  pub beside_scalar : (c : ℕ) → o.beside ≡ a_flag c → IsScalar c
 
 -- ---- words on lines
 
@@ -230,6 +250,23 @@ pub record IsEntry (width : ℕ) (label help text : List ℕ) : Type 0 where
 -- the options that are not hidden
 abbrev pub visible : List Declared → List Declared
 visible options = filter (λ o. not o.hidden) options
+
+-- the option has this name, if it is one
+abbrev pub is_named : Option Name → Declared → Bool
+is_named None o = false
+is_named (Some name) o = has_name name o
+
+-- the label of the first option shows the second
+abbrev pub shows : Declared → Declared → Bool
+shows p o = is_named (name_beside p.beside p.short_name p.long_name) o
+
+-- the label of one of these options, which is not hidden, shows this one
+abbrev pub is_shown_by : List Declared → Declared → Bool
+is_shown_by options o = list_any (λ p. not p.hidden && shows p o) options
+
+-- the options that have an entry: those that are not hidden, and that no label of another shows
+abbrev pub entered : List Declared → List Declared
+entered options = filter (λ o. not o.hidden && not (is_shown_by options o)) options
 
 -- the options that are not required, and those that are
 abbrev pub voluntary : List Declared → List Declared
@@ -336,8 +373,21 @@ abbrev pub told : Bool → List ℕ → Words → List ℕ
 told true help words = help
 told false help words = with_list help words
 
-abbrev pub option_text : Declared → List ℕ
-option_text o = told o.hides_list o.help o.words
+-- the help text of an option: the longer one, unless there is none or the help is brief
+abbrev pub chosen : Detail → List ℕ → List ℕ → List ℕ
+chosen brief help details = help
+chosen full help [] = help
+chosen full help (b ∷ bs) = b ∷ bs
+
+-- this text, and the default if there is one
+abbrev pub with_default : List ℕ → Option (List ℕ) → List ℕ
+with_default text None = text
+with_default text (Some value) =
+    text ++ (codes " [default: " ++ (escaped_text value ++ codes "]"))
+
+abbrev pub option_text : Detail → Declared → List ℕ
+option_text detail o =
+    with_default (told o.hides_list (chosen detail o.help o.details) o.words) o.default
 
 abbrev pub positional_text : Positional → List ℕ
 positional_text p = told p.hides_list p.help p.words
@@ -350,9 +400,9 @@ heading_lines [] = []
 heading_lines (b ∷ bs) = line_feed ∷ b ∷ bs ++ codes ":\n"
 
 -- the text is the heading of this option, if it has one, and its entry
-pub record IsOption (width : ℕ) (o : Declared) (text : List ℕ) : Type 0 where
+pub record IsOption (detail : Detail) (width : ℕ) (o : Declared) (text : List ℕ) : Type 0 where
   pub own : List ℕ
-  pub is_entry : IsEntry width (label o) (option_text o) own
+  pub is_entry : IsEntry width (label o) (option_text detail o) own
   pub written : text ≡ heading_lines o.heading ++ own
 
 -- ---- the whole text
@@ -372,9 +422,14 @@ abbrev pub options_part : List ℕ → List ℕ
 options_part text =
     if starts_with (λ a b. a == b) text (line_feed ∷ []) then text else set_apart text
 
--- the text is the help: the usage; what the program does; an entry for each positional that
--- has one, and for each option that is not hidden; and the paragraphs of the epilogue
-pub record IsHelp (d : Declaration) (width : ℕ) (text : List ℕ) : Type 0 where
+-- the paragraphs of the epilogue that the help shows
+abbrev pub shown_epilogue : Detail → List (List ℕ) → List (List ℕ)
+shown_epilogue brief epilogue = []
+shown_epilogue full epilogue = epilogue
+
+-- the text is the help: the usage; what the program does; an entry for each positional
+-- and option that has one; and the paragraphs of the epilogue that are shown
+pub record IsHelp (detail : Detail) (d : Declaration) (width : ℕ) (text : List ℕ) : Type 0 where
   pub usage : List ℕ
   pub about : List ℕ
   pub positionals : List (List ℕ)
@@ -385,7 +440,7 @@ pub record IsHelp (d : Declaration) (width : ℕ) (text : List ℕ) : Type 0 whe
   pub each_positional :
       AllZip (λ p. IsEntry width p.placeholder (positional_text p)) (described d.positionals)
       positionals
-  pub each_option : AllZip (IsOption width) (visible d.options) options
-  pub each_paragraph : AllZip (IsParagraph width) d.epilogue epilogue
+  pub each_option : AllZip (IsOption detail width) (entered d.options) options
+  pub each_paragraph : AllZip (IsParagraph width) (shown_epilogue detail d.epilogue) epilogue
   pub written : text ≡ usage ++ about ++ set_apart (concat positionals)
       ++ options_part (concat options) ++ flat_map set_apart epilogue

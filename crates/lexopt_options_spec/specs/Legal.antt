@@ -1,10 +1,10 @@
 -- What words mean under a declaration: relations between words and items, without calls or state.
 -- The source is `docs/behaviour.md`.
-use Rattle.std.specs.Prelude.{◌≡◌, ◌≤◌, ◌+◌, ◌==◌, ℕ, Bool, true, false, List, [], ◌∷◌, length}
-use Rattle.std.specs.Prelude.{map, Option, Some, None, if◌then◌else◌, is_none, not}
+use Rattle.std.specs.Prelude.{◌≡◌, ◌≤◌, ◌+◌, ◌==◌, ◌++◌, ℕ, suc, Bool, true, false, List, [], ◌∷◌}
+use Rattle.std.specs.Prelude.{length, map, Option, Some, None, if◌then◌else◌, is_none, not}
 use Rattle.std.specs.Prelude.{option_and_then, position, slice_get, unwrap_or}
 use Rattle.std.specs.List.{list_all, list_any}
-use Rattle.std.specs.Option.{option_map}
+use Rattle.std.specs.Option.{option_map, option_to_list}
 use Rattle.lexopt_line_spec.specs.Table as spec
 use Rattle.lexopt_line_spec.specs.Table.{Item}
 use Rattle.lexopt_line_spec.specs.Spelling.{Spells}
@@ -69,6 +69,21 @@ occurs i l = list_any (is_option i) l
 -- the option at this index is required
 abbrev pub is_required : List Declared → ℕ → Bool
 is_required options i = unwrap_or (option_map (λ o. o.required) (slice_get options i)) false
+
+-- the option at this index with its default, if it has one and is not among these
+abbrev pub default_beside : List Parsed → ℕ → Declared → List Parsed
+default_beside l i o =
+    if occurs i l then [] else map (λ value. option i (Some value)) (option_to_list o.default)
+
+-- those of these options that have a default and are not among these, in order, where the first of
+-- these options has this index
+abbrev pub defaults_beside : List Parsed → ℕ → List Declared → List Parsed
+defaults_beside l i [] = []
+defaults_beside l i (o ∷ os) = default_beside l i o ++ defaults_beside l (suc i) os
+
+-- what is read, after the defaults of the options that are not among it
+abbrev pub with_defaults : List Declared → List Parsed → List Parsed
+with_defaults options l = defaults_beside l 0 options ++ l
 
 -- ---- which values are accepted
 

@@ -43,10 +43,16 @@ abbrev pub HaveNoRest : RestStart → Declaration → List (List ℕ) → Type 0
 HaveNoRest start d words = (front : List (List ℕ)) (word : List ℕ) (more : List (List ℕ))
     → ¬ IsSplit start d words front word more
 
+-- the words, which are a legal line, have no rest; if a rest begins with a surplus positional, that
+-- follows
+abbrev pub IsWithoutRest : RestStart → Declaration → List (List ℕ) → Type 0
+IsWithoutRest surplus d words = Unit {0}
+IsWithoutRest separated d words = HaveNoRest separated d words
+
 -- the words legally spell this, before this rest, which may be empty
 pub data MeansBefore (start : RestStart) (d : Declaration) (words : List (List ℕ))
     (l : List Parsed) : List (List ℕ) → Type 0 where
-  without_rest : HaveNoRest start d words → Means d words l → MeansBefore start d words l []
+  without_rest : IsWithoutRest start d words → Means d words l → MeansBefore start d words l []
   before_rest : (front : List (List ℕ)) (word : List ℕ) (more : List (List ℕ))
       → IsSplit start d words front word more → Means d front l
       → MeansBefore start d words l (word ∷ more)

@@ -2,34 +2,44 @@
 ghost use Rattle.std.specs.Prelude.{◌≡◌, ◌∷◌, ◌++◌, [], None, Some, codes, false, true};
 ghost use Rattle.lexopt_line_spec.specs.Table.{flag, one, optional, several};
 ghost use Rattle.lexopt_options_spec.specs.Declaration.{any_number, at_least_once, at_most_once};
-ghost use Rattle.lexopt_options_spec.specs.Declaration.{directories, files, listed, once};
-ghost use Rattle.lexopt_options_spec.specs.Help.{below, columns, described, first_usage, heading_lines};
-ghost use Rattle.lexopt_options_spec.specs.Help.{help_column, option_text, options_part};
-ghost use Rattle.lexopt_options_spec.specs.Help.{label_of, line_feed, mark_of, option_mark, paragraph};
-ghost use Rattle.lexopt_options_spec.specs.Help.{set_apart, with_list, usage_words, words_of};
-ghost use Rattle.lexopt_options_spec.specs.Examples.{declaration_of, demanded_option, positional_of};
-ghost use Rattle.lexopt_options_spec.specs.Examples.{option_of, voluntary_option};
+ghost use Rattle.lexopt_options_spec.specs.Declaration.{a_flag, brief, directories, files, full};
+ghost use Rattle.lexopt_options_spec.specs.Declaration.{listed, negation, nothing, once};
+ghost use Rattle.lexopt_options_spec.specs.Help.{below, chosen, columns, described, entered};
+ghost use Rattle.lexopt_options_spec.specs.Help.{first_usage, heading_lines, help_column};
+ghost use Rattle.lexopt_options_spec.specs.Help.{option_text, options_part, label_of, line_feed};
+ghost use Rattle.lexopt_options_spec.specs.Help.{mark_of, option_mark, paragraph, set_apart};
+ghost use Rattle.lexopt_options_spec.specs.Help.{shown_epilogue, with_default, with_list};
+ghost use Rattle.lexopt_options_spec.specs.Help.{usage_words, words_of};
+ghost use Rattle.lexopt_options_spec.specs.Examples.{declaration_of, demanded_option};
+ghost use Rattle.lexopt_options_spec.specs.Examples.{positional_of, option_of, other_form};
+ghost use Rattle.lexopt_options_spec.specs.Examples.{voluntary_option};
 
 /// The labels of options with one name and with both.
 pub fn labels_look_so()
-    ensures both { label_of (Some 0x76) (Some (codes "verbose")) flag [] ≡ codes "-v, --verbose" }
-    ensures both_one { label_of (Some 0x6F) (Some (codes "output")) one (codes "FILE")
+    ensures both { label_of nothing (Some 0x76) (Some (codes "verbose")) flag [] ≡ codes "-v, --verbose" }
+    ensures both_one { label_of nothing (Some 0x6F) (Some (codes "output")) one (codes "FILE")
         ≡ codes "-o, --output=FILE" }
-    ensures both_optional { label_of (Some 0x62) (Some (codes "backup")) optional (codes "SUFFIX")
+    ensures both_optional { label_of nothing (Some 0x62) (Some (codes "backup")) optional (codes "SUFFIX")
         ≡ codes "-b[SUFFIX], --backup[=SUFFIX]" }
-    ensures both_several { label_of (Some 0x78) (Some (codes "exclude")) several (codes "PATTERN")
+    ensures both_several { label_of nothing (Some 0x78) (Some (codes "exclude")) several (codes "PATTERN")
         ≡ codes "-x, --exclude PATTERN..." }
-    ensures long { label_of None (Some (codes "quiet")) flag [] ≡ codes "    --quiet" }
-    ensures long_one { label_of None (Some (codes "tone")) one (codes "NAME")
+    ensures long { label_of nothing None (Some (codes "quiet")) flag [] ≡ codes "    --quiet" }
+    ensures long_one { label_of nothing None (Some (codes "tone")) one (codes "NAME")
         ≡ codes "    --tone=NAME" }
-    ensures long_optional { label_of None (Some (codes "color")) optional (codes "WHEN")
+    ensures long_optional { label_of nothing None (Some (codes "color")) optional (codes "WHEN")
         ≡ codes "    --color[=WHEN]" }
-    ensures long_several { label_of None (Some (codes "with")) several (codes "PART")
+    ensures long_several { label_of nothing None (Some (codes "with")) several (codes "PART")
         ≡ codes "    --with PART..." }
-    ensures short { label_of (Some 0x71) None flag [] ≡ codes "-q" }
-    ensures short_one { label_of (Some 0x6E) None one (codes "NUMBER") ≡ codes "-n NUMBER" }
-    ensures short_optional { label_of (Some 0x63) None optional (codes "WHEN") ≡ codes "-c[WHEN]" }
-    ensures short_several { label_of (Some 0x77) None several (codes "PART") ≡ codes "-w PART..." }
+    ensures short { label_of nothing (Some 0x71) None flag [] ≡ codes "-q" }
+    ensures short_one { label_of nothing (Some 0x6E) None one (codes "NUMBER") ≡ codes "-n NUMBER" }
+    ensures short_optional { label_of nothing (Some 0x63) None optional (codes "WHEN") ≡ codes "-c[WHEN]" }
+    ensures flag_beside { label_of (a_flag 0x46) None (Some (codes "classify")) optional
+        (codes "WHEN") ≡ codes "-F, --classify[=WHEN]" }
+    ensures negation { label_of negation None (Some (codes "color")) flag []
+        ≡ codes "    --[no-]color" }
+    ensures both_negated { label_of negation (Some 0x63) (Some (codes "color")) one (codes "WHEN")
+        ≡ codes "-c, --[no-]color=WHEN" }
+    ensures short_several { label_of nothing (Some 0x77) None several (codes "PART") ≡ codes "-w PART..." }
 {}
 
 /// Words are what is between blanks. The help text of an entry begins at column 24 at most.
@@ -122,12 +132,46 @@ pub fn lists_are_shown()
     ensures escaped { with_list [] (listed (codes "fast" ∷ (0xC2 ∷ 0x9B ∷ []) ∷ []))
         ≡ codes "one of fast, \\u{9b}" }
     ensures no_list { with_list (codes "where to") directories ≡ codes "where to" }
-    ensures shown { option_text (option_of None (listed (codes "fast" ∷ [])))
+    ensures shown { option_text full (option_of None (listed (codes "fast" ∷ [])))
         ≡ codes "one of fast" }
-    ensures hidden { option_text (record (option_of None (listed (codes "fast" ∷ []))) {
+    ensures hidden { option_text full (record (option_of None (listed (codes "fast" ∷ []))) {
       help = codes "how to pack";
       hides_list = true;
     }) ≡ codes "how to pack" }
+{}
+
+/// The full help shows the longer text of an option, if it has one. The default comes last.
+#[tactic(auto, unfolding(lexopt_line_spec::proofs::Computing::computing))]
+pub fn texts_are_chosen()
+    ensures longer { chosen full (codes "how") (codes "How to pack.") ≡ codes "How to pack." }
+    ensures in_brief { chosen brief (codes "how") (codes "How to pack.") ≡ codes "how" }
+    ensures no_longer { chosen full (codes "how") [] ≡ codes "how" }
+    ensures no_default { with_default (codes "how") None ≡ codes "how" }
+    ensures a_default { with_default (codes "how") (Some (codes "fast"))
+        ≡ codes "how [default: fast]" }
+    ensures escaped { with_default [] (Some (0xC2 ∷ 0x9B ∷ []))
+        ≡ codes " [default: \\u{9b}]" }
+    ensures all { option_text full (record (option_of None (listed (codes "fast" ∷ []))) {
+      help = codes "how";
+      details = codes "How to pack.";
+      default = Some (codes "fast");
+    }) ≡ codes "How to pack. One of fast. [default: fast]" }
+    ensures no_epilogue { shown_epilogue brief (codes "See tar." ∷ []) ≡ [] }
+    ensures epilogue { shown_epilogue full (codes "See tar." ∷ []) ≡ codes "See tar." ∷ [] }
+{}
+
+/// An option that the label of another shows has no entry of its own, unless that one is hidden.
+pub fn flags_are_shown_beside()
+    ensures flag { entered (voluntary_option ∷ other_form (a_flag 0x76) false ∷ [])
+        ≡ other_form (a_flag 0x76) false ∷ [] }
+    ensures hidden { entered (voluntary_option ∷ other_form (a_flag 0x76) true ∷ [])
+        ≡ voluntary_option ∷ [] }
+    ensures negation { entered (option_of (Some (codes "no-color")) files
+        ∷ other_form negation false ∷ []) ≡ other_form negation false ∷ [] }
+    ensures none { entered (voluntary_option ∷ other_form nothing false ∷ [])
+        ≡ voluntary_option ∷ other_form nothing false ∷ [] }
+    ensures another { entered (voluntary_option ∷ other_form (a_flag 0x77) false ∷ [])
+        ≡ voluntary_option ∷ other_form (a_flag 0x77) false ∷ [] }
 {}
 
 /// A heading comes after an empty line. There is one empty line before the first option, whether it

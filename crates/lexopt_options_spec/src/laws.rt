@@ -5,13 +5,12 @@ ghost use Rattle.lexopt_line_spec.specs.Table.{Item, long, short};
 ghost use Rattle.lexopt_line_spec.specs.Spelling.{Spells};
 ghost use Rattle.lexopt_options_spec.specs.Completion.{AreText};
 ghost use Rattle.lexopt_options_spec.specs.Declarable.{first_fault};
-ghost use Rattle.lexopt_options_spec.specs.Declaration.{Declaration, Declared, IsFirstFault, Reason};
-ghost use Rattle.lexopt_options_spec.specs.Declaration.{is_sound, table};
+ghost use Rattle.lexopt_options_spec.specs.Declaration.{Declaration, Declared, Detail};
+ghost use Rattle.lexopt_options_spec.specs.Declaration.{IsFirstFault, Reason, is_sound, table};
 ghost use Rattle.lexopt_options_spec.specs.Help.{HasTextNames, IsEntry, IsHelp, IsParagraph};
-ghost use Rattle.lexopt_options_spec.specs.Help.{IsUsage, IsUsageLine, LabelForm, Line, ShowsName, blanks};
-ghost use Rattle.lexopt_options_spec.specs.Help.{columns, gap, help_column, label, line_columns};
-ghost use Rattle.lexopt_options_spec.specs.Help.{line_feed};
-ghost use Rattle.lexopt_options_spec.specs.Help.{usage_column};
+ghost use Rattle.lexopt_options_spec.specs.Help.{IsUsage, IsUsageLine, LabelForm, Line, ShowsName};
+ghost use Rattle.lexopt_options_spec.specs.Help.{before_alone, blanks, columns, gap, help_column};
+ghost use Rattle.lexopt_options_spec.specs.Help.{label, line_columns, line_feed, usage_column};
 
 /// The prover computes the first fault of the options that `Options::new` is given. If the names of
 /// the options are text, as each `char` and each `&str` is, it finds none if and only if the
@@ -45,29 +44,32 @@ pub fn labels_show_forms()
 {}
 
 /// The label of an option with a character alone is the text for the character. With a long name
-/// alone, it is four blanks and the text for that name. With both, it is the text for the
-/// character, a comma, a blank, and the text for the long name. The text for a name shows all that
-/// the option can spell by that name without a value, or with the placeholder as its only value.
+/// alone, it is four blanks, or the flag that the label shows, a comma and a blank, and then the text
+/// for that name. With both, it is the text for the character, a comma, a blank, and the text for
+/// the long name. The text for a name shows all that the option can spell by that name without a
+/// value, or with the placeholder as its only value.
 pub fn labels_show_their_names()
     ensures short { (o : Declared) (c : ℕ) → o.short_name ≡ Some c → o.long_name ≡ None
         → ShowsName o (short c) (label o) }
     ensures long { (o : Declared) (name : List ℕ) → o.short_name ≡ None
         → o.long_name ≡ Some name → (shown : List ℕ) × ShowsName o (long name) shown
-        × (label o ≡ codes "    " ++ shown) }
+        × (label o ≡ before_alone o.beside ++ shown) }
     ensures both { (o : Declared) (c : ℕ) (name : List ℕ) → o.short_name ≡ Some c
         → o.long_name ≡ Some name → (first : List ℕ) × (second : List ℕ)
         × ShowsName o (short c) first × ShowsName o (long name) second
         × (label o ≡ first ++ codes ", " ++ second) }
 {}
 
-/// For each width, a declaration has exactly one usage and exactly one help.
+/// For each width, a declaration has exactly one usage, exactly one brief help and exactly one full
+/// help.
 pub fn each_declaration_has_one_help()
     ensures some_usage { (d : Declaration) (width : ℕ) → (text : List ℕ) × IsUsage width d text }
     ensures no_other_usage { (d : Declaration) (width : ℕ) (text other : List ℕ)
         → IsUsage width d text → IsUsage width d other → text ≡ other }
-    ensures some { (d : Declaration) (width : ℕ) → (text : List ℕ) × IsHelp d width text }
-    ensures no_other { (d : Declaration) (width : ℕ) (text other : List ℕ) → IsHelp d width text
-        → IsHelp d width other → text ≡ other }
+    ensures some { (detail : Detail) (d : Declaration) (width : ℕ)
+        → (text : List ℕ) × IsHelp detail d width text }
+    ensures no_other { (detail : Detail) (d : Declaration) (width : ℕ) (text other : List ℕ)
+        → IsHelp detail d width text → IsHelp detail d width other → text ≡ other }
 {}
 
 /// The words on a line of a usage line end within the width, if they begin at column 7, and so do

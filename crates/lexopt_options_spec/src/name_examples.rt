@@ -1,11 +1,15 @@
-//! Worked examples of the further names of options, which the definitions compute.
-ghost use Rattle.std.specs.Prelude.{◌≡◌, ◌∷◌, [], None, Some, codes};
-ghost use Rattle.lexopt_line_spec.specs.Table.{long, short};
+//! Worked examples of the further names of options, and of what is wrong with an option, which the
+//! definitions compute.
+ghost use Rattle.std.specs.Prelude.{◌≡◌, ◌∷◌, [], None, Some, codes, false, true};
+ghost use Rattle.lexopt_line_spec.specs.Table.{long, one, optional, short};
 ghost use Rattle.lexopt_options_spec.specs.Completion.{offered, spellings};
 ghost use Rattle.lexopt_options_spec.specs.Declarable.{fault_beside};
+ghost use Rattle.lexopt_options_spec.specs.Declaration.{a_flag, bad_default, bad_label};
 ghost use Rattle.lexopt_options_spec.specs.Declaration.{bad_placeholder, dash_name, empty_name};
-ghost use Rattle.lexopt_options_spec.specs.Declaration.{equals_in_name, index_of, same_name, table};
-ghost use Rattle.lexopt_options_spec.specs.Examples.{also, color, voluntary_option};
+ghost use Rattle.lexopt_options_spec.specs.Declaration.{equals_in_name, files, index_of, negation};
+ghost use Rattle.lexopt_options_spec.specs.Declaration.{same_name, table};
+ghost use Rattle.lexopt_options_spec.specs.Examples.{also, color, other_form, voluntary_option};
+ghost use Rattle.lexopt_options_spec.specs.Examples.{with_default_of};
 ghost use Rattle.lexopt_options_spec.specs.Help.{label};
 ghost use Rattle.lexopt_options_spec.specs.Nearest.{long_names};
 
@@ -54,4 +58,38 @@ pub fn further_names_are_checked()
     ensures last { fault_beside (color ∷ []) (record (also [] color) { placeholder = [] })
         ≡ Some bad_placeholder }
     ensures twice { fault_beside [] (also (short 0x76 ∷ []) voluntary_option) ≡ None }
+{}
+
+/// Only an option of one value that is not required has a default, which it accepts.
+pub fn defaults_are_checked()
+    ensures listed { fault_beside [] (with_default_of (codes "fast")) ≡ None }
+    ensures another { fault_beside [] (with_default_of (codes "slower")) ≡ Some bad_default }
+    ensures required { fault_beside [] (record (with_default_of (codes "fast")) { required = true })
+        ≡ Some bad_default }
+    ensures optional { fault_beside [] (record (with_default_of (codes "fast")) { kind = optional })
+        ≡ Some bad_default }
+    ensures flag { fault_beside [] (record voluntary_option { default = Some (codes "fast") })
+        ≡ Some bad_default }
+    ensures any { fault_beside [] (record (with_default_of (codes "- =")) { words = files })
+        ≡ None }
+{}
+
+/// A label shows only a flag before the option: by a character, if the option has none, or its
+/// negation.
+pub fn labels_are_checked()
+    ensures flag { fault_beside (voluntary_option ∷ []) (other_form (a_flag 0x76) false) ≡ None }
+    ensures missing { fault_beside [] (other_form (a_flag 0x76) false) ≡ Some bad_label }
+    ensures with_a_value { fault_beside
+        (record voluntary_option { kind = one; placeholder = codes "NAME" } ∷ [])
+        (other_form (a_flag 0x76) false) ≡ Some bad_label }
+    ensures two_characters { fault_beside (voluntary_option ∷ [])
+        (record (other_form (a_flag 0x76) false) { short_name = Some 0x63 }) ≡ Some bad_label }
+    ensures no_long_name { fault_beside (voluntary_option ∷ [])
+        (record voluntary_option { short_name = Some 0x63; beside = negation }) ≡ Some bad_label }
+    ensures negation { fault_beside
+        (record voluntary_option { long_name = Some (codes "no-color") } ∷ [])
+        (other_form negation false) ≡ None }
+    ensures no_negation { fault_beside
+        (record voluntary_option { long_name = Some (codes "nocolor") } ∷ [])
+        (other_form negation false) ≡ Some bad_label }
 {}

@@ -1,15 +1,20 @@
 -- What is wrong with an option among others.
 use Rattle.std.proofs.Common.{◌≡◌, ℕ, ◌+◌, ◌<◌, ◌≤◌, Bool, true, false, true≢false, ◌==◌, cond, Bor, List, ◌∷◌, [], map, length, take, get_or, Option, Some, None, option_map, is_none, refl, sym, ap, ◌∙◌, arith}
 use Rattle.std.specs.List.{list_all}
+use Rattle.std.specs.Option.{option_to_list}
+use Rattle.std.proofs.Math.Bool.{and-true}
+use Rattle.lexopt_line_spec.specs.Table.{Kind, flag, one, optional, several}
 use Rattle.std.proofs.lemmas.List.{take-map, get_or-map, length-map}
 use Rattle.std.proofs.lemmas.Option.{slice_get-get_or}
 use Rattle.std.proofs.lemmas.Bool.{eqb-true}
 use Rattle.std.proofs.lemmas.List.Folds.{list_all-map}
-use Rattle.lexopt_options_spec.specs.Declaration.{listed, bad_list, is_listable, list_fault, fault, faults, is_sound, IsFirstFault}
+use Rattle.lexopt_options_spec.specs.Declaration.{Words, listed, bad_list, bad_default, default_fault, is_default, is_listable, list_fault, fault, faults, is_sound, IsFirstFault}
 use Rattle.lexopt_options_spec.proofs.FaultLemmas.{faults_length, fault_at, sound_more, sound_all}
 use Rattle.lexopt_declaration.specs.declared.declaration.Declared.{Declared}
+use Rattle.lexopt_declaration.specs.declared.declaration.Kind as rust
+use Rattle.lexopt_declaration.specs.declared.declaration.Kind.TheVariants as kind
 use Rattle.lexopt_runtime_options.specs.declared.faults.Reason.{Reason}
-use Rattle.lexopt_declaration.specs.Models.{option_view}
+use Rattle.lexopt_declaration.specs.Models.{kind_of, option_view, words_view}
 use Rattle.lexopt_runtime_options.specs.Faults.{reason_view}
 
 -- the fault of the option at an index
@@ -49,3 +54,39 @@ pub list_fault_is : (values : List (Bor (List ℕ))) (none good : Bool) → none
     → list_fault (listed (map (λ (value : Bor (List ℕ)). value.now) values)) ≡ cond good None (Some bad_list)
 list_fault_is [] none good is so all = absurd (true≢false (sym is ∙ so))
 list_fault_is (v ∷ vs) none good is so all = ap (λ b. cond b None (Some bad_list)) (list_all-map is_listable (λ (value : Bor (List ℕ)). value.now) (v ∷ vs) ∙ sym all)
+
+-- ---- the default of an option
+
+always_fault : {F V M S : Type 0} (o : Declared F V M S) (value : Option (Bor (List ℕ))) → o.default ≡ value
+    → default_fault (option_view o) ≡ cond (list_all (is_default (kind_of o.kind) o.required (words_view o.words)) (option_to_list (option_map (λ v. v.now) value))) None (Some bad_default)
+always_fault o value is = ap (λ d. cond (list_all (is_default (kind_of o.kind) o.required (words_view o.words)) (option_to_list (option_map (λ v. v.now) d))) None (Some bad_default)) is
+
+pub no_default_fault : {F V M S : Type 0} (o : Declared F V M S) → o.default ≡ None → default_fault (option_view o) ≡ None
+no_default_fault o none = always_fault o None none
+
+pub default_fault_is : {F V M S : Type 0} (o : Declared F V M S) (value : Bor (List ℕ)) (good : Bool) → o.default ≡ Some value → good ≡ is_default (kind_of o.kind) o.required (words_view o.words) value.now
+    → default_fault (option_view o) ≡ cond good None (Some bad_default)
+default_fault_is o value good is so =
+    always_fault o (Some value) is ∙ ap (λ b. cond b None (Some bad_default)) (and-true (is_default (kind_of o.kind) o.required (words_view o.words) value.now) ∙ sym so)
+
+-- only an option of one value that is not required can have a default
+pub required_never : (k : Kind) (words : Words) (value : List ℕ) → is_default k true words value ≡ false
+required_never flag words value = refl
+required_never one words value = refl
+required_never optional words value = refl
+required_never several words value = refl
+
+pub one_alone : (k : Kind) (required : Bool) (words : Words) (value : List ℕ) → (k ≡ one → ⊥) → is_default k required words value ≡ false
+one_alone flag required words value other = refl
+one_alone one required words value other = absurd (other refl)
+one_alone optional required words value other = refl
+one_alone several required words value other = refl
+
+pub value_kind : {F V M S : Type 0} (k : rust.Kind F V M S) → kind_of k ≡ one → (key : V) × (placeholder : _) × (k ≡ kind.Value key placeholder)
+value_kind (kind.Value key placeholder) is = (key, placeholder, refl)
+value_kind (kind.Flag key) is = absurd (let e : flag ≡ one = is in cc)
+value_kind (kind.Maybe key placeholder) is = absurd (let e : optional ≡ one = is in cc)
+value_kind (kind.Values key placeholder) is = absurd (let e : several ≡ one = is in cc)
+value_kind kind.Help is = absurd (let e : flag ≡ one = is in cc)
+value_kind kind.BriefHelp is = absurd (let e : flag ≡ one = is in cc)
+value_kind (kind.Version text) is = absurd (let e : flag ≡ one = is in cc)

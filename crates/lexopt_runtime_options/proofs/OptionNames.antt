@@ -8,7 +8,8 @@ use Rattle.lexopt_options_spec.specs.Declaration as spec
 use Rattle.lexopt_options_spec.specs.Declaration.{Reason, is_name, is_one_of, name_fault, names_fault, or_else, share}
 use Rattle.lexopt_declaration.specs.declared.declaration.Declared.{Declared}
 use Rattle.lexopt_declaration.specs.declared.declaration.Names.{Names}
-use Rattle.lexopt_declaration.specs.Models.{names_list, option_view}
+use Rattle.lexopt_declaration.specs.declared.declaration.Names.TheVariants.{Short, Long, Both}
+use Rattle.lexopt_declaration.specs.Models.{long_name, names_list, option_view, short_name}
 use Rattle.lexopt_declaration.proofs.OptionNames.{all_names_are}
 
 -- ---- names in common
@@ -72,6 +73,18 @@ unfolding others_fault
 no_own_fault o none =
     ap (λ l. names_fault name_fault l) (all_names_are o) ∙ fault_more (names_list o.names) (flat_map names_list o.aliases.now)
     ∙ ap (λ f. or_else f (names_fault name_fault (flat_map names_list o.aliases.now))) (sym none)
+
+-- an own name at fault decides
+pub own_fault : {F V M S : Type 0} (o : Declared F V M S) (r : Reason) → Some r ≡ names_fault name_fault (names_list o.names) → Some r ≡ names_fault name_fault (spec.all_names (option_view o))
+own_fault o r is = sym
+    (ap (λ l. names_fault name_fault l) (all_names_are o) ∙ fault_more (names_list o.names) (flat_map names_list o.aliases.now)
+    ∙ ap (λ f. or_else f (names_fault name_fault (flat_map names_list o.aliases.now))) (sym is))
+
+-- only a long name alone has the character of a flag beside it
+pub no_flag : (options : List spec.Declared) (c : ℕ) (names : Names) → ((own : _) → ¬ (names ≡ Long own)) → false ≡ spec.have_flag options (spec.name_beside (spec.a_flag c) (short_name names) (long_name names))
+no_flag options c (Short d) other = refl
+no_flag options c (Long own) other = absurd (other own refl)
+no_flag options c (Both d own) other = refl
 
 pub fault_here : (aliases : List Names) (i : ℕ) (d : Names) (f : Option Reason) → i < length aliases → f ≡ names_fault name_fault (names_list (get_or aliases i d))
     → others_fault aliases i ≡ or_else f (others_fault aliases (i + 1))

@@ -19,7 +19,8 @@ use Rattle.lexopt_runtime_options.specs.declared.faults.Reason.TheVariants.{Equa
 use Rattle.lexopt_runtime_options.specs.declared.faults.Reason.TheVariants.{ReplacementInName}
 use Rattle.lexopt_runtime_options.specs.declared.faults.Reason.TheVariants.{BlankOrControlInName}
 use Rattle.lexopt_runtime_options.specs.declared.faults.Reason.TheVariants.{BadPlaceholder}
-use Rattle.lexopt_runtime_options.specs.declared.faults.Reason.TheVariants.{BadList, SameName}
+use Rattle.lexopt_runtime_options.specs.declared.faults.Reason.TheVariants.{BadList, BadDefault, BadLabel}
+use Rattle.lexopt_runtime_options.specs.declared.faults.Reason.TheVariants.{SameName}
 
 -- why an option cannot be declared
 abbrev pub reason_view : Reason → spec.Reason
@@ -30,6 +31,8 @@ reason_view ReplacementInName = spec.replacement_in_name
 reason_view BlankOrControlInName = spec.blank_or_control_in_name
 reason_view BadPlaceholder = spec.bad_placeholder
 reason_view BadList = spec.bad_list
+reason_view BadDefault = spec.bad_default
+reason_view BadLabel = spec.bad_label
 reason_view SameName = spec.same_name
 
 -- the option with these names is the first that cannot be declared after those before it, for this

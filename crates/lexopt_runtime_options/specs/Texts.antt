@@ -10,7 +10,8 @@ use Rattle.lexopt_runtime_options.specs.declared.faults.Reason.TheVariants.{Equa
 use Rattle.lexopt_runtime_options.specs.declared.faults.Reason.TheVariants.{ReplacementInName}
 use Rattle.lexopt_runtime_options.specs.declared.faults.Reason.TheVariants.{BlankOrControlInName}
 use Rattle.lexopt_runtime_options.specs.declared.faults.Reason.TheVariants.{BadPlaceholder}
-use Rattle.lexopt_runtime_options.specs.declared.faults.Reason.TheVariants.{BadList, SameName}
+use Rattle.lexopt_runtime_options.specs.declared.faults.Reason.TheVariants.{BadList, BadDefault, BadLabel}
+use Rattle.lexopt_runtime_options.specs.declared.faults.Reason.TheVariants.{SameName}
 
 -- why an option cannot be declared
 abbrev pub reason_text : Reason → List ℕ
@@ -23,6 +24,10 @@ reason_text BadPlaceholder = codes "its placeholder is empty or begins with '-' 
 reason_text BadList =
     codes "the list of its values is empty, or one of them is empty, begins with '-' or '=', "
     ++ codes "or has a blank or a control character in it"
+reason_text BadDefault = codes "it has a default, but is required, does not always have one value, or "
+    ++ codes "does not accept it"
+reason_text BadLabel = codes "its label shows a flag or a negation that is not declared before it, or does not "
+    ++ codes "fit its names"
 reason_text SameName = codes "an option before it has one of its names"
 
 -- which option or positional cannot be declared, and why

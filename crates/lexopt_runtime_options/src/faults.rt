@@ -1,22 +1,25 @@
 //! Checks declarations that are known only when the program runs.
-ghost use Rattle.std.specs.Prelude.{◌≡◌, ◌==◌, MatchResult, map, option_map, true};
+ghost use Rattle.std.specs.Prelude.{◌≡◌, ◌==◌, ◌&&◌, MatchResult, map, option_map, true};
 ghost use Rattle.std.specs.Option.{MatchOption};
 ghost use Rattle.std.specs.List.{list_all, list_any};
+ghost use Rattle.std.specs.Cmp.Lexicographic.{pointwise};
 ghost use Rattle.std.specs.Str.{chars};
 ghost use Rattle.lexopt_spec.specs.Pieces.{lossy_characters, replacement};
+ghost use Rattle.lexopt_line_spec.specs.Table as table;
 ghost use Rattle.lexopt_options_spec.specs.Declaration as spec;
 ghost use Rattle.lexopt_options_spec.specs.Declaration.{are_clear, are_listable, has, is_sound};
 ghost use Rattle.lexopt_declaration.specs.Declarations.{declaration_view};
-ghost use Rattle.lexopt_declaration.specs.Models.{arity_kind, arity_placeholder, option_view};
-ghost use Rattle.lexopt_declaration.specs.Models.{names_list, positional_view, words_view};
+ghost use Rattle.lexopt_declaration.specs.Models.{arity_kind, arity_placeholder, beside_view};
+ghost use Rattle.lexopt_declaration.specs.Models.{kind_of, long_name, names_list, option_view};
+ghost use Rattle.lexopt_declaration.specs.Models.{positional_view, short_name, words_view};
 ghost use Rattle.lexopt_options.specs.Declarations.{declaration_of, options_of, positionals_of};
 ghost use Rattle.lexopt_runtime_options.specs.Faults.{IsDeclarationError, IsListError};
 ghost use Rattle.lexopt_runtime_options.specs.Faults.{IsOptionError, IsPositionalError, reason_view};
 
 use lexopt_declaration::declaration::{
-    Arity, Declaration, Declared, Names, Positional, Words, are_text,
+    Arity, Beside, Declaration, Declared, Kind, Names, Positional, Words, are_text,
 };
-use lexopt_declaration::lookup::has_alias;
+use lexopt_declaration::lookup::{has_alias, has_negation, has_short};
 use lexopt_declaration::message::Escaped;
 use lexopt_declaration::positionals::may_repeat;
 use lexopt_options::Options;
@@ -43,6 +46,12 @@ pub enum Reason {
     /// The list of its values is empty, or one of them is empty, begins with `-` or `=`, or has a
     /// blank or a control character of ASCII in it.
     BadList,
+    /// It has a default, but is required, does not always have one value, or does not accept it.
+    BadDefault,
+    /// Its label shows a flag or a negation that is not declared before it, or does not fit its names:
+    /// a flag beside an option that has a character or no long name, or the negation of an option
+    /// without a long name.
+    BadLabel,
     /// An option before it has one of its names.
     SameName,
 }
@@ -90,6 +99,14 @@ impl fmt::Display for Reason {
             Reason::BadList => f.write_str(
                 "the list of its values is empty, or one of them is empty, begins with '-' or '=', \
                  or has a blank or a control character in it",
+            ),
+            Reason::BadDefault => f.write_str(
+                "it has a default, but is required, does not always have one value, or does not \
+                 accept it",
+            ),
+            Reason::BadLabel => f.write_str(
+                "its label shows a flag or a negation that is not declared before it, or does not \
+                 fit its names",
             ),
             Reason::SameName => f.write_str("an option before it has one of its names"),
         }
@@ -279,6 +296,51 @@ fn list_fault(words: Words<'_>) -> Option<Reason>
     }
 }
 
+// Whether a value is in this list.
+fn is_listed(values: &[&str], value: &str) -> bool
+    ensures { result ≡ list_any (λ own. pointwise ◌==◌ own.now value.now) values.now }
+{
+    values.iter().any(|own| own.as_bytes() == value.as_bytes())
+}
+
+// Whether a value is accepted: whether it is in the list, if there is one.
+fn accepts(words: Words<'_>, value: &str) -> bool
+    ensures { result ≡ spec.accepts (words_view words.entry) value.now }
+{
+    match words {
+        Words::Listed(values) => is_listed(values, value),
+        Words::Files | Words::Directories | Words::Text => true,
+    }
+}
+
+// Whether an option can have this default.
+fn is_default<F, V, M, S>(option: &Declared<'_, F, V, M, S>, value: &str) -> bool
+    ensures { result ≡ spec.is_default (kind_of option.now.kind) option.now.required
+        (words_view option.now.words) value.now }
+{
+    if option.required {
+        return false;
+    }
+    match option.kind {
+        Kind::Value(_, _) => accepts(option.words, value),
+        _ => false,
+    }
+}
+
+// What is wrong with the default of an option, if it has one.
+fn default_fault<F, V, M, S>(option: &Declared<'_, F, V, M, S>) -> Option<Reason>
+    ensures { option_map reason_view result ≡ spec.default_fault (option_view option.now) }
+{
+    let Some(default) = option.default else {
+        return None;
+    };
+    if is_default(option, default) {
+        None
+    } else {
+        Some(Reason::BadDefault)
+    }
+}
+
 // Whether an option has one of these names.
 fn has_one_of<F, V, M, S>(option: &Declared<'_, F, V, M, S>, names: Names<'_>) -> bool
     ensures { result
@@ -320,6 +382,91 @@ fn any_shares_name<F, V, M, S>(
     others.iter().any(|other| shares_name(option, other))
 }
 
+// Whether an option has no values.
+fn is_flag(arity: Arity<'_>) -> bool
+    ensures { result ≡ spec.is_flag (arity_kind arity.entry) }
+{
+    matches!(arity, Arity::Zero)
+}
+
+// Whether an option is a flag with this character.
+fn is_short_flag<F, V, M, S>(option: &Declared<'_, F, V, M, S>, character: char) -> bool
+    ensures { result ≡ (spec.is_flag (option_view option.now).kind
+        && spec.has_name (table.short character) (option_view option.now)) }
+{
+    is_flag(option.kind.arity()) && has_short(option, character)
+}
+
+// Whether an option is a flag that is the negation of this long name.
+fn is_negation<F, V, M, S>(option: &Declared<'_, F, V, M, S>, name: &str) -> bool
+    ensures { result ≡ (spec.is_flag (option_view option.now).kind
+        && spec.has_name (table.long (spec.negated name.now)) (option_view option.now)) }
+{
+    is_flag(option.kind.arity()) && has_negation(option, name)
+}
+
+// Whether one of these is a flag with this character.
+fn any_short_flag<F, V, M, S>(options: &[Declared<'_, F, V, M, S>], character: char) -> bool
+    ensures { result ≡ list_any (λ o. spec.is_flag (option_view o).kind
+        && spec.has_name (table.short character) (option_view o)) options.now }
+{
+    options
+        .iter()
+        .any(|option| is_short_flag(option, character))
+}
+
+// Whether one of these is a flag that is the negation of this long name.
+fn any_negation<F, V, M, S>(options: &[Declared<'_, F, V, M, S>], name: &str) -> bool
+    ensures { result ≡ list_any (λ o. spec.is_flag (option_view o).kind
+        && spec.has_name (table.long (spec.negated name.now)) (option_view o)) options.now }
+{
+    options.iter().any(|option| is_negation(option, name))
+}
+
+// Whether one of these is the flag that the label of an option with these names shows.
+fn have_flag<F, V, M, S>(
+    options: &[Declared<'_, F, V, M, S>],
+    beside: Beside,
+    names: Names<'_>,
+) -> bool
+    ensures { result ≡ spec.have_flag (map option_view options.now)
+        (spec.name_beside (beside_view beside) (short_name names.entry) (long_name names.entry)) }
+{
+    match beside {
+        Beside::Flag(character) => match names {
+            Names::Long(_) => any_short_flag(options, character),
+            _ => false,
+        },
+        Beside::Negation => match names.long() {
+            Some(name) => any_negation(options, name),
+            None => false,
+        },
+        Beside::Nothing => false,
+    }
+}
+
+// What is wrong with the label of an option after these options.
+fn label_fault<F, V, M, S>(
+    before: &[Declared<'_, F, V, M, S>],
+    beside: Beside,
+    names: Names<'_>,
+) -> Option<Reason>
+    ensures { option_map reason_view result
+        ≡ spec.label_fault (map option_view before.now) (beside_view beside)
+        (spec.name_beside (beside_view beside) (short_name names.entry) (long_name names.entry)) }
+{
+    match beside {
+        Beside::Nothing => None,
+        Beside::Flag(_) | Beside::Negation => {
+            if have_flag(before, beside, names) {
+                None
+            } else {
+                Some(Reason::BadLabel)
+            }
+        }
+    }
+}
+
 // What is wrong with an option after these options.
 fn fault<F, V, M, S>(
     before: &[Declared<'_, F, V, M, S>],
@@ -335,6 +482,12 @@ fn fault<F, V, M, S>(
         return Some(reason);
     }
     if let Some(reason) = list_fault(option.words) {
+        return Some(reason);
+    }
+    if let Some(reason) = default_fault(option) {
+        return Some(reason);
+    }
+    if let Some(reason) = label_fault(before, option.beside, option.names) {
         return Some(reason);
     }
     if any_shares_name(option, before) {
@@ -431,7 +584,7 @@ fn declaration_fault<'a, F, V, P, M, S>(
 ///
 /// ```rust
 /// match try_options(&DECLARATION) {
-///     Ok(options) => rt.print(options.help(alloc, WIDTH)?)?,
+///     Ok(options) => rt.print(options.help(alloc, Detail::Full, WIDTH)?)?,
 ///     // If two options have the name `output`, this prints:
 ///     // pack: option '--output': an option before it has one of its names
 ///     Err(error) => eprintln!(rt; "pack: {error}")?,

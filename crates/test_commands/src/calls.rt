@@ -3,7 +3,7 @@
 use crate::git::{Flag, Task, Value, git};
 use lexopt_commands::{Command, CommandLine, Commands, Step, declare_commands};
 use lexopt_options::{
-    Declaration, Line, Mistake, Names, Options, OsString, Refused, Request, RestStart,
+    Declaration, Detail, Line, Mistake, Names, Options, OsString, Refused, Request, RestStart,
     complete_rest, declare, read_rest,
 };
 use std::alloc::{AllocError, Global};
@@ -236,7 +236,10 @@ fn help_of_the_environment(rt: HostRuntime) {
 // Whether these are the texts of the declaration.
 fn are_texts(alloc: Global) -> Result<bool, AllocError> {
     let usage = "Usage: git [OPTION]... COMMAND\n       [ARGUMENT]...\n";
-    Ok(git().usage(alloc, 30)?.as_str() == usage && git().help(alloc, 30)?.as_str() == HELP_AT_30)
+    Ok(
+        git().usage(alloc, 30)?.as_str() == usage
+            && git().help(alloc, Detail::Full, 30)?.as_str() == HELP_AT_30,
+    )
 }
 
 #[test]

@@ -1,4 +1,4 @@
-//! Reads lines by five declarations, completes words, and prints the help. The script `compare`
+//! Reads lines by six declarations, completes words, and prints the help. The script `compare`
 //! beside `src` does the same by a plain reader, and compares.
 //!
 //! Each line of standard input is a case: the digit of a declaration, a letter, and then each word
@@ -12,13 +12,14 @@
 //!   rest begins after the separator. The output has the rest too.
 //! - `C` and `D` complete the last word of such a line. The output has the rest of the words before
 //!   it, or the lines that a script of a shell reads, and whether the rest can begin there.
-//! - `h` makes the help for a width, which is the word.
+//! - `h` makes the full help for a width, which is the word, and `b` the brief one.
 #![tactic(auto)]
 
 mod plans;
 
 use lexopt_options::{
-    Completion, Line, OsString, RestCompletion, RestStart, Role, WIDTH, complete_rest, read_rest,
+    Completion, Detail, Line, OsString, RestCompletion, RestStart, Role, WIDTH, complete_rest,
+    read_rest,
 };
 use plans::{Key, Place, PlanOptions, options_of};
 use std::alloc::{AllocError, Global};
@@ -124,13 +125,18 @@ fn complete_with_rest(
 }
 
 // The help for a width.
-fn help(alloc: Global, options: &PlanOptions, case: &[u8]) -> Result<String, AllocError> {
+fn help(
+    alloc: Global,
+    options: &PlanOptions,
+    detail: Detail,
+    case: &[u8],
+) -> Result<String, AllocError> {
     let (_, word) = typed_of(alloc, case)?;
     let width = word
         .to_str()
         .and_then(|text| text.parse().ok())
         .unwrap_or(WIDTH);
-    let text = options.help(alloc, width)?;
+    let text = options.help(alloc, detail, width)?;
     format!(in alloc; "{text:?}")
 }
 
@@ -145,7 +151,8 @@ fn text_of(alloc: Global, case: &[u8]) -> Result<String, AllocError> {
                 b'C' => complete_with_rest(alloc, &options, RestStart::Surplus, case),
                 b'S' => read_with_rest(alloc, &options, RestStart::Separated, case),
                 b'D' => complete_with_rest(alloc, &options, RestStart::Separated, case),
-                _ => help(alloc, &options, case),
+                b'b' => help(alloc, &options, Detail::Brief, case),
+                _ => help(alloc, &options, Detail::Full, case),
             },
             None => String::from_str(alloc, "there is no such declaration"),
         },

@@ -96,6 +96,29 @@ static STRICT: Plan = declare! {
     ],
 };
 
+// Two options with a default, one of which has a list of values. The full help has longer texts. Labels
+// show two flags and a negation beside the names of other options.
+static FILLED: Plan = declare! {
+    program: "filled",
+    options: [
+        flag(Key::Extra, Names::Long("no-user"), "nobody does it"),
+        value(Key::User, Names::Both('u', "user"), "NAME", "who does it")
+            .default("\x1B u")
+            .with_negation(),
+        flag(Key::Verbose, Names::Short('v'), "tell more"),
+        maybe(Key::Verbose, Names::Long("verbose"), "HOW", "how much")
+            .details("Tell more or less.")
+            .with_flag('v'),
+        value(Key::Extra, Names::Short('x'), "MORE", "")
+            .details("What else there is.")
+            .one_of(&["a", "1"])
+            .default("1"),
+        brief_help(Names::Short('h')),
+        help(Names::Long("help")).with_flag('h'),
+    ],
+    positionals: [any_number(Place::First, "FILE")],
+};
+
 /// The options of the declaration with this digit.
 pub fn options_of(digit: u8) -> Option<PlanOptions> {
     match digit {
@@ -104,6 +127,7 @@ pub fn options_of(digit: u8) -> Option<PlanOptions> {
         b'2' => Some(Options::new(&OPEN)),
         b'3' => Some(Options::new(&ASKED)),
         b'4' => Some(Options::new(&STRICT)),
+        b'5' => Some(Options::new(&FILLED)),
         _ => None,
     }
 }

@@ -1,5 +1,5 @@
 -- Lines of any commands, by the clauses of `Commands::read` and `Commands::answer_request`.
-use Rattle.std.proofs.Common.{append-nil, ◌≡◌, ◌∷◌, ℕ, List, [], None, Some, string_bytes, sym, subst, ⊎_elim, inl, inr}
+use Rattle.std.proofs.Common.{refl, append-nil, ◌≡◌, ◌∷◌, ℕ, List, [], None, Some, string_bytes, sym, subst, ⊎_elim, inl, inr}
 use Rattle.std.specs.declared.convert.Infallible.{Infallible}
 use Rattle.lexopt_options_spec.specs.Asking.{first_asked}
 use Rattle.lexopt_options_spec.specs.Declaration as spec
@@ -17,7 +17,7 @@ use Rattle.lexopt_options.specs.declared.request.Request.{Request}
 use Rattle.lexopt_options.specs.declared.request.Request.TheVariants as request
 use Rattle.lexopt_options.specs.Answers.{IsUnknownRequest}
 use Rattle.lexopt_options.specs.Declarations.{declaration_of, options_of}
-use Rattle.lexopt_options.specs.Keys.{AreParsedAs, asked_view}
+use Rattle.lexopt_options.specs.Keys.{AreReadAs, asked_view}
 use Rattle.lexopt_options.specs.declared.refused.Line.TheVariants as front
 use Rattle.lexopt_options.specs.RestLines.{IsRestRead, by_all, by_front, early}
 use Rattle.lexopt_commands.specs.declared.answer.Step.{Step}
@@ -35,15 +35,15 @@ use Rattle.test_option_callers.specs.AnyCommands.{AskFirst, HaveMistake, IsAsked
 -- ---- a line that is read
 
 by_words : {C F V M S : Type 0} (o : Options F V Infallible M S) (commands : List (Command C)) (words : List (List ℕ)) (r : Refused F V Infallible M S) (m : Mistake) (l : List legal.Parsed) (rest : List (List ℕ))
-    → MeansBefore surplus (declaration_of o) words l rest → first_asked (declaration_of o).options l ≡ None → AreParsedAs (options_of o) l r.before.items → IsMistake commands rest m → HaveMistake o commands words r m
+    → MeansBefore surplus (declaration_of o) words l rest → first_asked (declaration_of o).options l ≡ None → AreReadAs (options_of o) l r.before.items → IsMistake commands rest m → HaveMistake o commands words r m
 by_words o commands words r m l rest means none are (missing_command names is named) = ((l, rest, means, none, are, is), named)
 by_words o commands words r m l rest means none are (unknown_command word own hints is hinted) = ((l, rest, means, none, are, is), hinted)
 
 -- what general options mean, and the rest after them
 means_so : {F V M S : Type 0} (o : Options F V Infallible M S) (words rest : List (List ℕ)) (parsed : _) → IsRestRead surplus o words rest (front.Parsed parsed)
-    → (l : List legal.Parsed) × MeansBefore surplus (declaration_of o) words l rest × (first_asked (declaration_of o).options l ≡ None) × AreParsedAs (options_of o) l parsed.items
+    → (l : List legal.Parsed) × MeansBefore surplus (declaration_of o) words l rest × (first_asked (declaration_of o).options l ≡ None) × AreReadAs (options_of o) l parsed.items
 means_so o words (word ∷ more) parsed (by_front before word2 more2 own split is) = (is.0, before_rest before word2 more2 split is.1, is.2, is.3)
-means_so o words [] parsed (by_all own none is) = (is.0, without_rest none is.1, is.2, is.3)
+means_so o words [] parsed (by_all own none is) = (is.0, without_rest tt is.1, is.2, is.3)
 means_so o words [] parsed (early own is) = absurd is
 
 asks_so : {F V M S : Type 0} (o : Options F V Infallible M S) (words rest : List (List ℕ)) (asked : Asked) → IsRestRead surplus o words rest (front.Asked asked) → AskFirst (declaration_of o) words (asked_view asked)
@@ -60,14 +60,14 @@ line_so : {C F V M S : Type 0} (c : Commands C F V M S) (words : List (List ℕ)
 line_so c words (line.Command parsed name key own) is = ⊎_elim (λ no. absurd no)
     (λ (a : IsAfterOptions c words (line.Command parsed name key own)).
     let m = means_so c.options words a.rest a.parsed a.read in
-    (m.0, a.rest, m.1, m.2, subst (λ x. AreParsedAs (options_of c.options) m.0 x) (sym a.after.0) m.3, a.after.1)) is
+    (m.0, a.rest, m.1, m.2, subst (λ x. AreReadAs (options_of c.options) m.0 x) (sym a.after.0) m.3, a.after.1)) is
 line_so c words (line.Asked asked) is = ⊎_elim (λ by. inl (asks_so c.options words by.0 asked by.1))
     (λ (a : IsAfterOptions c words (line.Asked asked)).
     let m = means_so c.options words a.rest a.parsed a.read in inr (a.after.1, a.parsed.items, (m.0, a.rest, m.1, m.2, m.3, a.after.0))) is
 line_so c words (line.Refused r) is = ⊎_elim (λ by. let own = refused_so c.options words by.0 r by.1 in (own.0, own.1, inl own.2))
     (λ (a : IsAfterOptions c words (line.Refused r)).
     let m = means_so c.options words a.rest a.parsed a.read in
-    (a.after.program, a.after.help, inr (by_words c.options c.commands.now words r r.mistake m.0 a.rest m.1 m.2 (subst (λ x. AreParsedAs (options_of c.options) m.0 x) (sym a.after.before) m.3) a.after.told))) is
+    (a.after.program, a.after.help, inr (by_words c.options c.commands.now words r r.mistake m.0 a.rest m.1 m.2 (subst (λ x. AreReadAs (options_of c.options) m.0 x) (sym a.after.before) m.3) a.after.told))) is
 
 pub line_tells : {C F V M S : Type 0} (c : Commands C F V M S) (o : Options F V Infallible M S) (commands : List (Command C)) (words : List (List ℕ)) (it : CommandLine C F V M S)
     → c.options ≡ o → c.commands.now ≡ commands → IsLineRead c words it → LineTells o commands words it
@@ -76,14 +76,11 @@ line_tells c o commands words it same own is = subst (λ x. LineTells x commands
 -- ---- the line of words that are given
 
 asked_so : {C F V M S : Type 0} (asked : spec.Asked) (it : CommandLine C F V M S) → IsLineAsking asked it → IsAskedFor asked it
-asked_so for_help (line.Command parsed name key own) is = is
-asked_so (for_version text) (line.Command parsed name key own) is = is
-asked_so for_help (line.Asked asks.Help) is = tt
-asked_so for_help (line.Asked (asks.Version own)) is = absurd (let e : for_version own.now ≡ for_help = is in cc)
-asked_so (for_version text) (line.Asked asks.Help) is = absurd (let e : for_help ≡ for_version text = is in cc)
-asked_so (for_version text) (line.Asked (asks.Version own)) is = let e : for_version own.now ≡ for_version text = is in cc
-asked_so for_help (line.Refused r) is = is
-asked_so (for_version text) (line.Refused r) is = is
+asked_so {C = C} {F = F} {V = V} {M = M} {S = S} asked (line.Asked asks.Help) is = subst (λ a. IsAskedFor {C = C} {F = F} {V = V} {M = M} {S = S} a (line.Asked asks.Help)) is tt
+asked_so {C = C} {F = F} {V = V} {M = M} {S = S} asked (line.Asked asks.BriefHelp) is = subst (λ a. IsAskedFor {C = C} {F = F} {V = V} {M = M} {S = S} a (line.Asked asks.BriefHelp)) is tt
+asked_so {C = C} {F = F} {V = V} {M = M} {S = S} asked (line.Asked (asks.Version own)) is = subst (λ a. IsAskedFor {C = C} {F = F} {V = V} {M = M} {S = S} a (line.Asked (asks.Version own))) is refl
+asked_so asked (line.Command parsed name key own) is = absurd is
+asked_so asked (line.Refused r) is = absurd is
 
 pub asked_line : {C F V M S : Type 0} (c : Commands C F V M S) (o : Options F V Infallible M S) (l : List legal.Parsed) (rest : List (List ℕ)) (asked : spec.Asked) (it : CommandLine C F V M S)
     → c.options ≡ o → first_asked (declaration_of o).options l ≡ Some asked → IsLineOf c l rest it → IsAskedFor asked it
@@ -106,6 +103,7 @@ none_of o own l same none = subst (λ x. first_asked (declaration_of x).options 
 
 text_so : {C F V M S : Type 0} (c : Commands C F V M S) (asked : Asked) (width : ℕ) (text : List ℕ) → IsAskedText c (asked_view asked) width text → TextTells c.options c.commands.now asked width text
 text_so c asks.Help width text is = is
+text_so c asks.BriefHelp width text is = is
 text_so c (asks.Version own) width text is = is
 
 step_so : {C F V M S : Type 0} (c : Commands C F V M S) (before : List (Parsed F V Infallible M S)) (words : List (List ℕ)) (width : ℕ) (it : Step C F V M S) → IsStep c before words width it → StepTells c.options c.commands.now before words width it

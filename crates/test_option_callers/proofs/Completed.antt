@@ -6,7 +6,7 @@ use Rattle.std.specs.List.{flat_map, list_any}
 use Rattle.std.proofs.Math.Path.{fun_ext}
 use Rattle.std.proofs.lemmas.Option.{slice_get-map}
 use Rattle.lexopt_line_spec.proofs.Computing.{computing}
-use Rattle.lexopt_options_spec.specs.Declaration.{Declaration, for_help, for_version}
+use Rattle.lexopt_options_spec.specs.Declaration.{Declaration, for_brief_help, for_help, for_version}
 use Rattle.lexopt_options_spec.specs.Completion as completion
 use Rattle.lexopt_options_spec.specs.Completion.{AreOwnersIn, HasRole, IsJoined, offered_values}
 use Rattle.lexopt_declaration.specs.Scripts.{request_text, shell_script, variable_name}
@@ -190,7 +190,8 @@ offer o words typed text view is =
 
 asked_for : (words : List (List ℕ)) (width : ℕ) (text : List ℕ) → AskForText tool words width text → IsAskedFor words width text
 asked_for words width text (for_help, asks, is) = inl (asks, is)
-asked_for words width text (for_version version, asks, is) = inr (version, asks, is)
+asked_for words width text (for_brief_help, asks, is) = inr (inl (asks, is))
+asked_for words width text (for_version version, asks, is) = inr (inr (version, asks, is))
 
 pub answered : (o : Options Flag Value Word Maybe Values) (words : List (List ℕ)) (width : ℕ) (a : Answer Flag Value Word Maybe Values) → AreOfTool o → IsAnswer o words width a
     → ToolAnswer words width a

@@ -45,6 +45,7 @@ same_help (kind.Value key placeholder) = refl
 same_help (kind.Maybe key placeholder) = refl
 same_help (kind.Values key placeholder) = refl
 same_help kind.Help = refl
+same_help kind.BriefHelp = refl
 same_help (kind.Version text) = refl
 
 same_value : {F V M S : Type 0} (eq : V → V → Bool) (key : V) (k : Kind F V M S) → is_value eq key k ≡ has_value eq key k
@@ -53,6 +54,7 @@ same_value eq key (kind.Value own placeholder) = refl
 same_value eq key (kind.Maybe own placeholder) = refl
 same_value eq key (kind.Values own placeholder) = refl
 same_value eq key kind.Help = refl
+same_value eq key kind.BriefHelp = refl
 same_value eq key (kind.Version text) = refl
 
 same_maybe : {F V M S : Type 0} (eq : M → M → Bool) (key : M) (k : Kind F V M S) → is_maybe eq key k ≡ has_maybe eq key k
@@ -61,6 +63,7 @@ same_maybe eq key (kind.Value own placeholder) = refl
 same_maybe eq key (kind.Maybe own placeholder) = refl
 same_maybe eq key (kind.Values own placeholder) = refl
 same_maybe eq key kind.Help = refl
+same_maybe eq key kind.BriefHelp = refl
 same_maybe eq key (kind.Version text) = refl
 
 same_values : {F V M S : Type 0} (eq : S → S → Bool) (key : S) (k : Kind F V M S) → is_values eq key k ≡ has_values eq key k
@@ -69,6 +72,7 @@ same_values eq key (kind.Value own placeholder) = refl
 same_values eq key (kind.Maybe own placeholder) = refl
 same_values eq key (kind.Values own placeholder) = refl
 same_values eq key kind.Help = refl
+same_values eq key kind.BriefHelp = refl
 same_values eq key (kind.Version text) = refl
 
 pub help_first : {F V M S : Type 0} (options : List (Declared F V M S)) → help_names options ≡ first_names asks_for_help options
@@ -99,7 +103,7 @@ keys options (s ∷ l) [] all = absurd all
 keys options (s ∷ l) (o ∷ os) all = (one_key options s o all.0, keys options l os all.1)
 
 pub line_keys : {F V P M S : Type 0} (o : Options F V P M S) (words : List (List ℕ)) (l : Line F V P M S) → IsLineRead o words l → HaveKeys (options_of o) l
-line_keys o words (line.Parsed own) is = (is.0, keys (options_of o) is.0 own.items is.3)
+line_keys o words (line.Parsed own) is = (_, keys (options_of o) _ own.items is.3)
 line_keys o words (line.Asked asked) is = tt
 line_keys o words (line.Refused r) is = (_, keys (options_of o) _ r.before.items is.before, is.help ∙ help_first (options_of o))
 

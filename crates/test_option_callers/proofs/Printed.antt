@@ -130,6 +130,8 @@ same_reason reason.ReplacementInName = refl
 same_reason reason.BlankOrControlInName = refl
 same_reason reason.BadPlaceholder = refl
 same_reason reason.BadList = refl
+same_reason reason.BadDefault = refl
+same_reason reason.BadLabel = refl
 same_reason reason.SameName = refl
 
 -- the placeholder is printed as it is

@@ -1,7 +1,7 @@
 -- The help of three commands, by the clause of `Commands::help`.
 use Rattle.std.proofs.Common.{◌≡◌, ℕ, List, [], ◌∷◌, map, subst}
 use Rattle.std.specs.List.{AllZip}
-use Rattle.lexopt_options_spec.specs.Declaration.{Declaration}
+use Rattle.lexopt_options_spec.specs.Declaration.{Declaration, full}
 use Rattle.lexopt_options_spec.specs.Help.{IsEntry}
 use Rattle.lexopt_commands.specs.declared.command.Command.{Command}
 use Rattle.lexopt_commands.specs.Help.{IsHelp}
@@ -19,7 +19,7 @@ entries_so width [] (t ∷ ts) zip = zip
 entries_so width (c ∷ cs) [] zip = zip
 entries_so width (c ∷ cs) (t ∷ ts) zip = (zip.0, entries_so width cs ts zip.1)
 
-pub task_help : (d own : Declaration) (commands : List (Command Task)) (width : ℕ) (text : List ℕ) → d ≡ own → map name_and_help commands ≡ task_helps → IsHelp d commands width text → IsTaskHelp own width text
+pub task_help : (d own : Declaration) (commands : List (Command Task)) (width : ℕ) (text : List ℕ) → d ≡ own → map name_and_help commands ≡ task_helps → IsHelp full d commands width text → IsTaskHelp own width text
 task_help d own commands width text same are is = subst (λ x. IsTaskHelp x width text) same (record {
   usage = is.usage;
   about = is.about;

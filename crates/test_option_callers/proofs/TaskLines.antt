@@ -6,7 +6,7 @@ use Rattle.lexopt_options_spec.specs.Legal as legal
 use Rattle.lexopt_options.specs.declared.mistake.Mistake.{Mistake}
 use Rattle.lexopt_options.specs.declared.parsed.Parsed.{Parsed}
 use Rattle.lexopt_options.specs.Declarations.{declaration_of, options_of}
-use Rattle.lexopt_options.specs.Keys.{AreParsedAs}
+use Rattle.lexopt_options.specs.Keys.{AreReadAs}
 use Rattle.lexopt_commands.specs.declared.commands.Commands.{Commands}
 use Rattle.lexopt_commands.specs.declared.read.CommandLine.{CommandLine}
 use Rattle.lexopt_commands.specs.declared.read.CommandLine.TheVariants as line
@@ -21,10 +21,10 @@ use Rattle.test_option_callers.specs.Tasks.{IsAsking, AreHintsFor, IsMissing, Is
 
 -- the words after the general options are this command
 pub is_task : {F V M S : Type 0} (c : Commands Task F V M S) (l : List legal.Parsed) (parsed : List (Parsed F V Infallible M S)) (rest own : List (List ℕ)) (name : List ℕ) (task : Task) (it : CommandLine Task F V M S)
-    → meaning c.commands.now rest ≡ command name task own → AreParsedAs (options_of c.options) l parsed → IsLineAfter c parsed rest it → IsTask (options_of c.options) l name task own it
+    → meaning c.commands.now rest ≡ command name task own → AreReadAs (options_of c.options) l parsed → IsLineAfter c parsed rest it → IsTask (options_of c.options) l name task own it
 is_task c l parsed rest own name task (line.Command words told key others) means are after =
     let e : command name task own ≡ command told.now key others.items = sym means ∙ after.1 in
-    (subst (λ x. AreParsedAs (options_of c.options) l x) (sym after.0) are, name_is told.now key others.items e, key_is told.now key others.items e, own_is told.now key others.items e)
+    (subst (λ x. AreReadAs (options_of c.options) l x) (sym after.0) are, name_is told.now key others.items e, key_is told.now key others.items e, own_is told.now key others.items e)
   where
     name_is : (told : List ℕ) (key : Task) (others : List (List ℕ)) → command name task own ≡ command told key others → told ≡ name
     name_is told key others e = cc
@@ -52,10 +52,10 @@ is_asking c parsed rest (line.Refused refused) means after = no_mistake refused.
     no_mistake m (unknown_command word others hints is are) = let e : ◌≡◌ {A = Meaning Task} help (unknown word others.items) = sym means ∙ is in cc
 
 pub is_missing : {F V M S : Type 0} (c : Commands Task F V M S) (l : List legal.Parsed) (parsed : List (Parsed F V Infallible M S)) (it : CommandLine Task F V M S)
-    → names_of c.commands.now ≡ codes "add" ∷ codes "remote" ∷ codes "help" ∷ [] → AreParsedAs (options_of c.options) l parsed → IsLineAfter c parsed [] it → IsMissing (options_of c.options) l it
+    → names_of c.commands.now ≡ codes "add" ∷ codes "remote" ∷ codes "help" ∷ [] → AreReadAs (options_of c.options) l parsed → IsLineAfter c parsed [] it → IsMissing (options_of c.options) l it
 is_missing c l parsed (line.Command words told key others) names are after = let e : ◌≡◌ {A = Meaning Task} missing (command told.now key others.items) = after.1 in cc
 is_missing c l parsed (line.Asked asked) names are after = let e : ◌≡◌ {A = Meaning Task} missing help = after.0 in cc
-is_missing c l parsed (line.Refused refused) names are after = (subst (λ x. AreParsedAs (options_of c.options) l x) (sym after.before) are, by_mistake refused.mistake after.told)
+is_missing c l parsed (line.Refused refused) names are after = (subst (λ x. AreReadAs (options_of c.options) l x) (sym after.before) are, by_mistake refused.mistake after.told)
   where
     by_mistake : (m : Mistake) → IsMistake c.commands.now [] m → IsMissingName m
     by_mistake m (missing_command own is named) = named ∙ names
@@ -65,11 +65,11 @@ same_unknown : (name word : List ℕ) (words own : List (List ℕ)) → ◌≡�
 same_unknown name word words own e = (cc, cc)
 
 pub is_unknown : {F V M S : Type 0} (c : Commands Task F V M S) (l : List legal.Parsed) (parsed : List (Parsed F V Infallible M S)) (rest own : List (List ℕ)) (name typed : List ℕ) (it : CommandLine Task F V M S)
-    → meaning c.commands.now rest ≡ unknown name own → ((hints : List (List ℕ)) → IsHint c.commands.now name hints → AreHintsFor typed hints) → AreParsedAs (options_of c.options) l parsed → IsLineAfter c parsed rest it
+    → meaning c.commands.now rest ≡ unknown name own → ((hints : List (List ℕ)) → IsHint c.commands.now name hints → AreHintsFor typed hints) → AreReadAs (options_of c.options) l parsed → IsLineAfter c parsed rest it
     → IsUnknown (options_of c.options) l name typed own it
 is_unknown c l parsed rest own name typed (line.Command words told key others) means are_hints are after = let e : ◌≡◌ {A = Meaning Task} (unknown name own) (command told.now key others.items) = sym means ∙ after.1 in cc
 is_unknown c l parsed rest own name typed (line.Asked asked) means are_hints are after = let e : ◌≡◌ {A = Meaning Task} (unknown name own) help = sym means ∙ after.0 in cc
-is_unknown c l parsed rest own name typed (line.Refused refused) means are_hints are after = (subst (λ x. AreParsedAs (options_of c.options) l x) (sym after.before) are, by_mistake refused.mistake after.told)
+is_unknown c l parsed rest own name typed (line.Refused refused) means are_hints are after = (subst (λ x. AreReadAs (options_of c.options) l x) (sym after.before) are, by_mistake refused.mistake after.told)
   where
     by_mistake : (m : Mistake) → IsMistake c.commands.now rest m → IsUnknownName name typed own m
     by_mistake m (missing_command names is are) = let e : ◌≡◌ {A = Meaning Task} (unknown name own) missing = sym means ∙ is in cc
@@ -80,7 +80,7 @@ is_unknown c l parsed rest own name typed (line.Refused refused) means are_hints
 -- ---- under the general options of the caller
 
 after_none : {F V M S : Type 0} (c : Commands Task F V M S) (o : Options F V Infallible M S) (l : List legal.Parsed) (rest : List (List ℕ)) (it : CommandLine Task F V M S)
-    → c.options ≡ o → first_asked (declaration_of o).options l ≡ None → IsLineOf c l rest it → (parsed : List (Parsed F V Infallible M S)) × AreParsedAs (options_of c.options) l parsed × IsLineAfter c parsed rest it
+    → c.options ≡ o → first_asked (declaration_of o).options l ≡ None → IsLineOf c l rest it → (parsed : List (Parsed F V Infallible M S)) × AreReadAs (options_of c.options) l parsed × IsLineAfter c parsed rest it
 after_none c o l rest it same none of = of.after (subst (λ x. first_asked (declaration_of x).options l ≡ None) (sym same) none)
 
 pub task_line : {F V M S : Type 0} (c : Commands Task F V M S) (o : Options F V Infallible M S) (l : List legal.Parsed) (rest own : List (List ℕ)) (name : List ℕ) (task : Task) (it : CommandLine Task F V M S)

@@ -3,16 +3,17 @@ use Rattle.std.proofs.Common.{◌≡◌, ℕ, List, [], ◌∷◌, Some, None, l
 use Rattle.std.specs.Prelude.{slice_get}
 use Rattle.std.specs.List.{AllZip}
 use Rattle.std.proofs.lemmas.Option.{slice_get-map}
-use Rattle.lexopt_options_spec.specs.Declaration.{Declaration, Declared as SpecDeclared, for_help, for_version}
+use Rattle.lexopt_options_spec.specs.Declaration.{Declaration, Declared as SpecDeclared, for_brief_help, for_help, for_version}
 use Rattle.lexopt_options_spec.specs.Asking.{AskFor, first_asked, parsed_before}
 use Rattle.lexopt_options.specs.RestLines.{IsRestOf}
 use Rattle.lexopt_options_spec.specs.Legal as legal
-use Rattle.lexopt_options_spec.specs.Legal.{Means}
+use Rattle.lexopt_options_spec.specs.Legal.{Means, with_defaults}
+use Rattle.lexopt_options_spec.proofs.Defaults.{no_defaults}
 use Rattle.lexopt_options_spec.specs.Places.{ArePlaces}
 use Rattle.lexopt_options_spec.specs.Stops as stops
 use Rattle.lexopt_options_spec.specs.Stops.{StopsAt}
 use Rattle.lexopt_options.specs.Declarations.{declaration_of, options_of, positionals_of}
-use Rattle.lexopt_options.specs.Keys.{IsParsedAs, AreParsedAs, HasKey, HaveKeys, positional_keys}
+use Rattle.lexopt_options.specs.Keys.{IsParsedAs, AreParsedAs, AreReadAs, HasKey, HaveKeys, positional_keys}
 use Rattle.lexopt_options.specs.Lines.{IsLineOf, IsLineRead, IsRefused, LineMeans}
 use Rattle.lexopt_options.specs.Mistakes.{IsMistake}
 use Rattle.lexopt_options.specs.declared.mistake.Mistake.{Mistake}
@@ -56,6 +57,12 @@ are_told options (s ∷ l) (o ∷ os) all = (told options s o all.0, are_told op
 pub record AreOfTool (o : Options Flag Value Word Maybe Values) : Type 0 where
   pub view : declaration_of o ≡ tool
   pub keys : map (λ (p : Positional Word). p.key) (positionals_of o) ≡ word_keys
+
+-- no option of the tool has a default
+read_told : (o : Options Flag Value Word Maybe Values) (l : List legal.Parsed) (own : List (Parsed Flag Value Word Maybe Values)) → AreOfTool o → AreReadAs (options_of o) l own → AreTold l own
+read_told o l own its are =
+    subst (λ m. AreTold m own) (no_defaults tool_options l refl)
+    (subst (λ (d : Declaration). AreTold (with_defaults d.options l) own) its.view (are_told (options_of o) (with_defaults (declaration_of o).options l) own are))
 
 same_keys : (own : List (Parsed Flag Value Word Maybe Values)) → positional_keys own ≡ read_keys own
 same_keys [] = refl
@@ -117,17 +124,19 @@ refused_as o words r its is =
 
 pub means : (o : Options Flag Value Word Maybe Values) (words : List (List ℕ)) (own : List (Parsed Flag Value Word Maybe Values)) → AreOfTool o → LineMeans o words own → ToolMeans words own
 means o words own its is =
-    (is.0, subst (λ (d : Declaration). Means d words is.0) its.view is.1, subst (λ (d : Declaration). first_asked d.options is.0 ≡ None) its.view is.2, are_told (options_of o) is.0 own is.3, keyed o own its is.4)
+    (is.0, subst (λ (d : Declaration). Means d words is.0) its.view is.1, subst (λ (d : Declaration). first_asked d.options is.0 ≡ None) its.view is.2, read_told o is.0 own its is.3, keyed o own its is.4)
 
 pub line_is : (o : Options Flag Value Word Maybe Values) (words : List (List ℕ)) (l : Line Flag Value Word Maybe Values) → AreOfTool o → IsLineRead o words l → ToolLine words l
 line_is o words (line.Parsed own) its is = means o words own.items its is
 line_is o words (line.Asked asked.Help) its is = subst (λ (d : Declaration). AskFor d words for_help) its.view is
+line_is o words (line.Asked asked.BriefHelp) its is = subst (λ (d : Declaration). AskFor d words for_brief_help) its.view is
 line_is o words (line.Asked (asked.Version text)) its is = subst (λ (d : Declaration). AskFor d words (for_version text.now)) its.view is
 line_is o words (line.Refused r) its is = refused_as o words r its is
 
 pub line_tells : (o : Options Flag Value Word Maybe Values) (l : List legal.Parsed) (line : Line Flag Value Word Maybe Values) → AreOfTool o → IsLineOf o l line → LineTells l line
-line_tells o l (line.Parsed own) its is = (subst (λ (d : Declaration). first_asked d.options l ≡ None) its.view is.0, are_told (options_of o) l own.items is.1, keyed o own.items its is.2)
+line_tells o l (line.Parsed own) its is = (subst (λ (d : Declaration). first_asked d.options l ≡ None) its.view is.0, read_told o l own.items its is.1, keyed o own.items its is.2)
 line_tells o l (line.Asked asked.Help) its is = subst (λ (d : Declaration). first_asked d.options l ≡ Some for_help) its.view is
+line_tells o l (line.Asked asked.BriefHelp) its is = subst (λ (d : Declaration). first_asked d.options l ≡ Some for_brief_help) its.view is
 line_tells o l (line.Asked (asked.Version text)) its is = subst (λ (d : Declaration). first_asked d.options l ≡ Some (for_version text.now)) its.view is
 line_tells o l (line.Refused r) its is = is
 
@@ -135,6 +144,5 @@ line_tells o l (line.Refused r) its is = is
 
 pub rest_tells : (o : Options Flag Value Word Maybe Values) (l : List legal.Parsed) (rest others : List (List ℕ)) (own : Line Flag Value Word Maybe Values) → AreOfTool o → IsRestOf o l rest others own → RestTells l rest others own
 rest_tells o l rest others (line.Parsed own) its is = (line_tells o l (line.Parsed own) its is.0, is.1)
-rest_tells o l rest others (line.Asked asked.Help) its is = line_tells o l (line.Asked asked.Help) its is
-rest_tells o l rest others (line.Asked (asked.Version text)) its is = line_tells o l (line.Asked (asked.Version text)) its is
+rest_tells o l rest others (line.Asked own) its is = line_tells o l (line.Asked own) its is
 rest_tells o l rest others (line.Refused r) its is = absurd is

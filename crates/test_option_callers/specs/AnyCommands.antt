@@ -6,7 +6,7 @@ use Rattle.std.specs.Global.{Global}
 use Rattle.std.specs.declared.convert.Infallible.{Infallible}
 use Rattle.lexopt_options_spec.specs.Asking.{first_asked}
 use Rattle.lexopt_options_spec.specs.Declaration as spec
-use Rattle.lexopt_options_spec.specs.Declaration.{for_help, for_version}
+use Rattle.lexopt_options_spec.specs.Declaration.{brief, for_brief_help, for_help, for_version, full}
 use Rattle.lexopt_options_spec.specs.Asking as asking
 use Rattle.lexopt_options_spec.specs.Rest.{MeansBefore, surplus}
 use Rattle.lexopt_options_spec.specs.Legal as legal
@@ -24,7 +24,7 @@ use Rattle.lexopt_options.specs.declared.request.Request.{Request}
 use Rattle.lexopt_options.specs.declared.request.Request.TheVariants as request
 use Rattle.lexopt_options.specs.Answers.{script_lines}
 use Rattle.lexopt_options.specs.Declarations.{declaration_of, options_of}
-use Rattle.lexopt_options.specs.Keys.{AreParsedAs, asked_view}
+use Rattle.lexopt_options.specs.Keys.{AreReadAs, asked_view}
 use Rattle.lexopt_options.specs.Lines.{IsRefused}
 use Rattle.lexopt_commands.specs.declared.answer.Step.{Step}
 use Rattle.lexopt_commands.specs.declared.answer.Step.TheVariants as step
@@ -43,7 +43,7 @@ abbrev pub MeanSo : {C F V M S : Type 0} → Options F V Infallible M S → List
     → List (Parsed F V Infallible M S) → Meaning C → Type 0
 MeanSo o commands words parsed what = (l : List legal.Parsed) × (rest : List (List ℕ))
     × MeansBefore surplus (declaration_of o) words l rest
-    × (first_asked (declaration_of o).options l ≡ None) × AreParsedAs (options_of o) l parsed
+    × (first_asked (declaration_of o).options l ≡ None) × AreReadAs (options_of o) l parsed
     × (meaning commands rest ≡ what)
 
 -- this is wrong with the words after the general options
@@ -83,6 +83,7 @@ LineTells o commands words (line.Refused r) = (r.program.now ≡ (declaration_of
 -- the line asks for this
 abbrev pub IsAskedFor : {C F V M S : Type 0} → spec.Asked → CommandLine C F V M S → Type 0
 IsAskedFor for_help (line.Asked asks.Help) = Unit {0}
+IsAskedFor for_brief_help (line.Asked asks.BriefHelp) = Unit {0}
 IsAskedFor (for_version text) (line.Asked (asks.Version own)) = own.now ≡ text
 IsAskedFor what line = ⊥
 
@@ -90,14 +91,15 @@ IsAskedFor what line = ⊥
 abbrev pub IsNamed : {C F V M S : Type 0} → List (Declared F V M S) → List legal.Parsed → List ℕ → C
     → List (List ℕ) → CommandLine C F V M S → Type 0
 IsNamed options l name key words (line.Command parsed told found own) =
-    AreParsedAs options l parsed.items × (told.now ≡ name) × (found ≡ key) × (own.items ≡ words)
+    AreReadAs options l parsed.items × (told.now ≡ name) × (found ≡ key) × (own.items ≡ words)
 IsNamed options l name key words line = ⊥
 
 -- ---- what the program does
 
 abbrev pub TextTells : {C F V M S : Type 0} → Options F V Infallible M S → List (Command C) → Asked → ℕ
     → List ℕ → Type 0
-TextTells o commands asks.Help width text = IsHelp (declaration_of o) commands width text
+TextTells o commands asks.Help width text = IsHelp full (declaration_of o) commands width text
+TextTells o commands asks.BriefHelp width text = IsHelp brief (declaration_of o) commands width text
 TextTells o commands (asks.Version own) width text = text ≡ own.now ++ 10 ∷ []
 
 -- the words are the line of a command, which is called with its words, with the general options

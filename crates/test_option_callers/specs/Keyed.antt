@@ -29,6 +29,7 @@ asks_for_help (kind.Value key placeholder) = false
 asks_for_help (kind.Maybe key placeholder) = false
 asks_for_help (kind.Values key placeholder) = false
 asks_for_help kind.Help = true
+asks_for_help kind.BriefHelp = false
 asks_for_help (kind.Version text) = false
 
 abbrev pub has_value : {F V M S : Type 0} → (V → V → Bool) → V → Kind F V M S → Bool
@@ -37,6 +38,7 @@ has_value eq key (kind.Value own placeholder) = eq own key
 has_value eq key (kind.Maybe own placeholder) = false
 has_value eq key (kind.Values own placeholder) = false
 has_value eq key kind.Help = false
+has_value eq key kind.BriefHelp = false
 has_value eq key (kind.Version text) = false
 
 abbrev pub has_maybe : {F V M S : Type 0} → (M → M → Bool) → M → Kind F V M S → Bool
@@ -45,6 +47,7 @@ has_maybe eq key (kind.Value own placeholder) = false
 has_maybe eq key (kind.Maybe own placeholder) = eq own key
 has_maybe eq key (kind.Values own placeholder) = false
 has_maybe eq key kind.Help = false
+has_maybe eq key kind.BriefHelp = false
 has_maybe eq key (kind.Version text) = false
 
 abbrev pub has_values : {F V M S : Type 0} → (S → S → Bool) → S → Kind F V M S → Bool
@@ -53,6 +56,7 @@ has_values eq key (kind.Value own placeholder) = false
 has_values eq key (kind.Maybe own placeholder) = false
 has_values eq key (kind.Values own placeholder) = eq own key
 has_values eq key kind.Help = false
+has_values eq key kind.BriefHelp = false
 has_values eq key (kind.Version text) = false
 
 -- the names of the first option whose kind passes the test

@@ -61,6 +61,11 @@ reason_line reason.BlankOrControlInName =
     codes "its name has a blank or a control character in it"
 reason_line reason.BadPlaceholder = codes "its placeholder is empty or begins with '-' or '='"
 reason_line reason.BadList = list_reason
+reason_line reason.BadDefault = codes "it has a default, but is required, does not always have one value, or "
+    ++ codes "does not accept it"
+reason_line reason.BadLabel =
+    codes "its label shows a flag or a negation that is not declared before it, or does not "
+    ++ codes "fit its names"
 reason_line reason.SameName = codes "an option before it has one of its names"
 
 abbrev pub declaration_line : DeclarationError → List ℕ
@@ -170,13 +175,16 @@ listed_option placeholder values = record {
   kind = one;
   placeholder = placeholder;
   help = [];
+  details = [];
   asks = None;
   heading = [];
   hidden = false;
   required = false;
+  default = None;
   words = spec.listed values;
   hides_list = false;
   aliases = [];
+  beside = spec.nothing;
 }
 
 abbrev pub two_options : ℕ → List ℕ → List ℕ → List (List ℕ) → List spec.Declared
@@ -186,13 +194,16 @@ two_options character name placeholder values = record {
   kind = flag;
   placeholder = [];
   help = [];
+  details = [];
   asks = None;
   heading = [];
   hidden = false;
   required = false;
+  default = None;
   words = spec.files;
   hides_list = false;
   aliases = [];
+  beside = spec.nothing;
 } ∷ listed_option placeholder values ∷ []
 
 abbrev pub reason_of : Reason → spec.Reason
@@ -203,6 +214,8 @@ reason_of reason.ReplacementInName = spec.replacement_in_name
 reason_of reason.BlankOrControlInName = spec.blank_or_control_in_name
 reason_of reason.BadPlaceholder = spec.bad_placeholder
 reason_of reason.BadList = spec.bad_list
+reason_of reason.BadDefault = spec.bad_default
+reason_of reason.BadLabel = spec.bad_label
 reason_of reason.SameName = spec.same_name
 
 -- the character of the first option, or of the second
@@ -239,13 +252,16 @@ one_option character help = record {
   kind = flag;
   placeholder = [];
   help = help;
+  details = [];
   asks = None;
   heading = [];
   hidden = false;
   required = false;
+  default = None;
   words = spec.files;
   hides_list = false;
   aliases = [];
+  beside = spec.nothing;
 }
     ∷ []
 

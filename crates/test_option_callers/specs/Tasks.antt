@@ -5,9 +5,9 @@ use Rattle.std.specs.Global.{Global}
 use Rattle.std.specs.List.{AllZip, concat, flat_map, starts_with}
 use Rattle.std.specs.declared.convert.Infallible.{Infallible}
 use Rattle.lexopt_options_spec.specs.Declaration.{Count, Declaration, Positional, any_number, files}
-use Rattle.lexopt_options_spec.specs.Declaration.{once}
+use Rattle.lexopt_options_spec.specs.Declaration.{full, once}
 use Rattle.lexopt_options_spec.specs.Help.{IsEntry, IsOption, IsParagraph, IsUsage}
-use Rattle.lexopt_options_spec.specs.Help.{options_part, set_apart, visible}
+use Rattle.lexopt_options_spec.specs.Help.{entered, options_part, set_apart}
 use Rattle.lexopt_options_spec.specs.Rest.{IsSplit, surplus}
 use Rattle.lexopt_options_spec.specs.Legal as legal
 use Rattle.lexopt_options_spec.specs.Nearest.{IsNearest, hinted_names}
@@ -19,7 +19,7 @@ use Rattle.lexopt_options.specs.declared.options.Options.{Options}
 use Rattle.lexopt_options.specs.declared.request.Request.TheVariants as request
 use Rattle.lexopt_options.specs.Answers.{IsCompletionText}
 use Rattle.lexopt_options.specs.Declarations.{declaration_of}
-use Rattle.lexopt_options.specs.Keys.{AreParsedAs}
+use Rattle.lexopt_options.specs.Keys.{AreReadAs}
 use Rattle.lexopt_commands.specs.declared.answer.Step.{Step}
 use Rattle.lexopt_commands.specs.declared.answer.Step.TheVariants as step
 use Rattle.lexopt_commands.specs.declared.read.CommandLine.{CommandLine}
@@ -36,7 +36,7 @@ task_helps = (codes "add", codes "add files")
 abbrev pub IsTask : {F V M S : Type 0} → List (Declared F V M S) → List legal.Parsed → List ℕ → Task
     → List (List ℕ) → CommandLine Task F V M S → Type 0
 IsTask options l name task words (line.Command parsed own key rest) =
-    AreParsedAs options l parsed.items × (own.now ≡ name) × (key ≡ task) × (rest.items ≡ words)
+    AreReadAs options l parsed.items × (own.now ≡ name) × (key ≡ task) × (rest.items ≡ words)
 IsTask options l name task words line = ⊥
 
 -- it asks for the help
@@ -52,7 +52,7 @@ IsMissingName m = ⊥
 -- it has no command
 abbrev pub IsMissing : {F V M S : Type 0} → List (Declared F V M S) → List legal.Parsed
     → CommandLine Task F V M S → Type 0
-IsMissing options l (line.Refused refused) = AreParsedAs options l refused.before.items
+IsMissing options l (line.Refused refused) = AreReadAs options l refused.before.items
     × IsMissingName refused.mistake
 IsMissing options l line = ⊥
 
@@ -70,7 +70,7 @@ IsUnknownName name typed words m = ⊥
 abbrev pub IsUnknown : {F V M S : Type 0} → List (Declared F V M S) → List legal.Parsed → List ℕ
     → List ℕ → List (List ℕ) → CommandLine Task F V M S → Type 0
 IsUnknown options l name typed words (line.Refused refused) =
-    AreParsedAs options l refused.before.items × IsUnknownName name typed words refused.mistake
+    AreReadAs options l refused.before.items × IsUnknownName name typed words refused.mistake
 IsUnknown options l name typed words line = ⊥
 
 -- ---- completion of a typed word
@@ -138,7 +138,7 @@ pub record IsTaskHelp (d : Declaration) (width : ℕ) (text : List ℕ) : Type 0
   }) usage
   pub about_next : IsParagraph width d.about about
   pub each_command : AllZip (λ p. IsEntry width p.0 p.1) task_helps commands
-  pub each_option : AllZip (IsOption width) (visible d.options) options
+  pub each_option : AllZip (IsOption full width) (entered d.options) options
   pub each_paragraph : AllZip (IsParagraph width) d.epilogue epilogue
   pub written : text ≡ usage ++ about ++ set_apart (concat commands)
       ++ options_part (concat options) ++ flat_map set_apart epilogue

@@ -15,7 +15,8 @@ use Rattle.lexopt_declaration.specs.declared.spellings.Spelling.{Spelling}
 use Rattle.lexopt_spec.specs.UnreadLine.{Tail}
 use Rattle.lexopt_line_spec.specs.Table.{Kind, flag, one, optional, several, short, long}
 use Rattle.lexopt_options_spec.specs.Declaration.{Declaration, Declared, once}
-use Rattle.lexopt_options_spec.specs.Declaration.{at_most_once, any_number, for_help, for_version}
+use Rattle.lexopt_options_spec.specs.Declaration.{at_most_once, any_number, brief, for_brief_help}
+use Rattle.lexopt_options_spec.specs.Declaration.{for_help, for_version, full}
 use Rattle.lexopt_options_spec.specs.Declaration as spec
 use Rattle.lexopt_options_spec.specs.Declaration.{Positional, directories, files, listed}
 use Rattle.lexopt_options_spec.specs.Asking.{AskFor, first_asked, parsed_before}
@@ -62,13 +63,16 @@ plain c name kind placeholder help = record {
   kind = kind;
   placeholder = placeholder;
   help = help;
+  details = [];
   asks = None;
   heading = [];
   hidden = false;
   required = false;
+  default = None;
   words = files;
   hides_list = false;
   aliases = [];
+  beside = spec.nothing;
 }
 
 abbrev pub tool_options : List Declared
@@ -171,6 +175,7 @@ ToolMeans words own = (l : List legal.Parsed) × Means tool words l
 -- the words make this request before any mistake
 abbrev pub ToolAsked : List (List ℕ) → Asked → Type 0
 ToolAsked words asked.Help = AskFor tool words for_help
+ToolAsked words asked.BriefHelp = AskFor tool words for_brief_help
 ToolAsked words (asked.Version text) = AskFor tool words (for_version text.now)
 
 -- the reading of the words stops at this mistake; before it is no request, and this is the list
@@ -234,6 +239,7 @@ abbrev pub LineTells : List legal.Parsed → Line Flag Value Word Maybe Values �
 LineTells l (line.Parsed own) = (first_asked tool_options l ≡ None) × AreTold l own.items
     × AreKeyed own.items
 LineTells l (line.Asked asked.Help) = first_asked tool_options l ≡ Some for_help
+LineTells l (line.Asked asked.BriefHelp) = first_asked tool_options l ≡ Some for_brief_help
 LineTells l (line.Asked (asked.Version text)) =
     first_asked tool_options l ≡ Some (for_version text.now)
 LineTells l (line.Refused refused) = ⊥
@@ -407,7 +413,8 @@ pub record IsOffer (before : List (List ℕ)) (typed text : List ℕ) : Type 0 w
 
 -- the words ask for the help or the version, and this is the text
 abbrev pub IsAskedFor : List (List ℕ) → ℕ → List ℕ → Type 0
-IsAskedFor words width text = (AskFor tool words for_help × IsHelp tool width text)
+IsAskedFor words width text = (AskFor tool words for_help × IsHelp full tool width text)
+    ⊎ (AskFor tool words for_brief_help × IsHelp brief tool width text)
     ⊎ ((version : List ℕ) × AskFor tool words (for_version version) × (text ≡ version ++ 10 ∷ []))
 
 abbrev pub ToolAnswer : List (List ℕ) → ℕ → Answer Flag Value Word Maybe Values → Type 0

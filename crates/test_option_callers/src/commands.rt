@@ -14,7 +14,7 @@ ghost use Rattle.test_option_callers.specs.Tasks.{IsTaskHelp, IsUnknown, IsWritt
 ghost use Rattle.std.specs.List.{flat_map};
 
 use lexopt_commands::{Command, CommandLine, Commands, Reason, Runs, Step};
-use lexopt_options::{Options, OsString, Request};
+use lexopt_options::{Detail, Options, OsString, Request};
 use std::alloc::{AllocError, Global};
 use std::convert::Infallible;
 
@@ -129,7 +129,7 @@ pub fn help_of_tasks<F, V, M, S>(
     ensures { IfOk result (λ text.
         IsTaskHelp (declaration_of options.entry) width (string_bytes text)) }
 {
-    Commands::new(options, &TASKS).help(alloc, width)
+    Commands::new(options, &TASKS).help(alloc, Detail::Full, width)
 }
 
 static BLANK: [Command<'static, Task>; 2] = [

@@ -7,6 +7,7 @@ ghost use Rattle.lexopt_options_spec.specs.Completion as completion;
 ghost use Rattle.lexopt_options_spec.specs.Completion.{AreOwnersIn, Completes, HasRole, IsJoined};
 ghost use Rattle.lexopt_options_spec.specs.Completion.{offered_values};
 ghost use Rattle.lexopt_options_spec.specs.Declaration as spec;
+ghost use Rattle.lexopt_options_spec.specs.Declaration.{full};
 ghost use Rattle.lexopt_options_spec.specs.Help.{IsHelp};
 ghost use Rattle.lexopt_options_spec.specs.Rest.{MeansBefore};
 ghost use Rattle.lexopt_options.specs.RestStarts.{start_view};
@@ -22,8 +23,8 @@ ghost use Rattle.test_option_callers.specs.Tool.{tool_options};
 use lexopt_items::items::Table;
 use lexopt_option_table::table_of;
 use lexopt_options::{
-    Answer, Completion, Count, Declaration, Declared, Kind, Line, Names, Options, OsString,
-    Positional, Request, RestStart, Words, variable,
+    Answer, Beside, Completion, Count, Declaration, Declared, Detail, Kind, Line, Names, Options,
+    OsString, Positional, Request, RestStart, Words, variable,
 };
 use std::alloc::{AllocError, Global};
 
@@ -80,89 +81,113 @@ static TOOL: Declaration<'static, Flag, Value, Word, Maybe, Values> = Declaratio
             names: Names::Both('v', "verbose"),
             kind: Kind::Flag(Flag::Verbose),
             help: "tell more",
+            details: "",
             heading: "",
             hidden: false,
             required: false,
+            default: None,
             words: Words::Files,
             hides_list: false,
             aliases: &[],
+            beside: Beside::Nothing,
         },
         Declared {
             names: Names::Short('f'),
             kind: Kind::Flag(Flag::Force),
             help: "by force",
+            details: "",
             heading: "Danger",
             hidden: true,
             required: false,
+            default: None,
             words: Words::Files,
             hides_list: false,
             aliases: &[],
+            beside: Beside::Nothing,
         },
         Declared {
             names: Names::Both('o', "output"),
             kind: Kind::Value(Value::Output, "FILE"),
             help: "write there",
+            details: "",
             heading: "",
             hidden: false,
             required: false,
+            default: None,
             words: Words::Files,
             hides_list: false,
             aliases: &[],
+            beside: Beside::Nothing,
         },
         Declared {
             names: Names::Long("color"),
             kind: Kind::Maybe(Maybe::Color, "WHEN"),
             help: "paint",
+            details: "",
             heading: "",
             hidden: false,
             required: false,
+            default: None,
             words: Words::Listed(&["always", "never"]),
             hides_list: true,
             aliases: &[Names::Long("colour")],
+            beside: Beside::Nothing,
         },
         Declared {
             names: Names::Short('x'),
             kind: Kind::Values(Values::Exclude, "GLOB"),
             help: "leave out",
+            details: "",
             heading: "",
             hidden: false,
             required: false,
+            default: None,
             words: Words::Files,
             hides_list: false,
             aliases: &[],
+            beside: Beside::Nothing,
         },
         Declared {
             names: Names::Both('h', "help"),
             kind: Kind::Help,
             help: "help",
+            details: "",
             heading: "",
             hidden: false,
             required: false,
+            default: None,
             words: Words::Files,
             hides_list: false,
             aliases: &[],
+            beside: Beside::Nothing,
         },
         Declared {
             names: Names::Long("version"),
             kind: Kind::Version("tool 1"),
             help: "version",
+            details: "",
             heading: "",
             hidden: false,
             required: false,
+            default: None,
             words: Words::Files,
             hides_list: false,
             aliases: &[],
+            beside: Beside::Nothing,
         },
         Declared {
             names: Names::Both('u', "user"),
             kind: Kind::Value(Value::User, "NAME"),
             help: "for whom",
+            details: "",
             heading: "Owners",
             hidden: false,
             required: true,
+            default: None,
             words: Words::Files,
             hides_list: false,
             aliases: &[],
+            beside: Beside::Nothing,
         },
     ],
     positionals: &[
@@ -296,10 +321,13 @@ pub fn odd_variable(alloc: Global) -> Result<String, AllocError>
 /// The usage line of the tool, and its help.
 pub fn usage_and_help(alloc: Global, width: usize) -> Result<(String, String), AllocError>
     ensures usage { IfOk result (λ texts. IsToolUsage width (string_bytes texts.0)) }
-    ensures help { IfOk result (λ texts. IsHelp tool width (string_bytes texts.1)) }
+    ensures help { IfOk result (λ texts. IsHelp full tool width (string_bytes texts.1)) }
 {
     let options = Options::new(&TOOL);
-    Ok((options.usage(alloc, width)?, options.help(alloc, width)?))
+    Ok((
+        options.usage(alloc, width)?,
+        options.help(alloc, Detail::Full, width)?,
+    ))
 }
 
 /// The table of the options of the tool that have values.

@@ -1,10 +1,11 @@
 //! A caller of a declaration whose options are in groups.
 ghost use Rattle.std.specs.Prelude.{IfOk, string_bytes};
+ghost use Rattle.lexopt_options_spec.specs.Declaration.{full};
 ghost use Rattle.lexopt_options_spec.specs.Help.{IsHelp};
 ghost use Rattle.test_option_callers.specs.Grouped.{grouped};
 
 use crate::declared::{Flag, Value};
-use lexopt_options::{Declaration, Group, Names, Options, declare, declare_group};
+use lexopt_options::{Declaration, Detail, Group, Names, Options, declare, declare_group};
 use lexopt_runtime_options::Combined;
 use std::alloc::{AllocError, Global};
 
@@ -29,9 +30,9 @@ static TELLING: Group<'static, Flag, Value> = declare_group! {
 /// The help of a declaration of one option with two groups: its own option first, and then those of
 /// each group.
 pub fn grouped_help(alloc: Global, width: usize) -> Result<String, AllocError>
-    ensures { IfOk result (λ text. IsHelp grouped width (string_bytes text)) }
+    ensures { IfOk result (λ text. IsHelp full grouped width (string_bytes text)) }
 {
     let combined = Combined::new(alloc, &LEAD, &[FILES, TELLING])?;
     let declaration = combined.declaration();
-    Options::new(&declaration).help(alloc, width)
+    Options::new(&declaration).help(alloc, Detail::Full, width)
 }

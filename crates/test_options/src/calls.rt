@@ -3,7 +3,7 @@ use crate::archive::{
     ARCHIVE, ArchiveLine, ArchiveOptions, Flag, archive, archive_of_files, text_of_answer,
 };
 use lexopt_option_table::table_of;
-use lexopt_options::{Line, Names, OsString, Request, Shell, declare_option};
+use lexopt_options::{Detail, Line, Names, OsString, Request, Shell, declare_option};
 use lexopt_runtime_options::{DeclarationError, Reason, try_options};
 use std::alloc::{AllocError, Global};
 use test_helpers::parsers::words_of;
@@ -119,7 +119,7 @@ fn completions(rt: HostRuntime) {
 fn are_texts(alloc: Global) -> Result<bool, AllocError> {
     let options = archive_of_files();
     let usage = options.usage(alloc, 30)?;
-    let help = options.help(alloc, 40)?;
+    let help = options.help(alloc, Detail::Full, 40)?;
     let script = options.script(alloc, Shell::Zsh)?;
     Ok(
         usage.as_str() == "Usage: archive [OPTION]...\n       [FILE]...\n"

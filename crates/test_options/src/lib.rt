@@ -1,5 +1,5 @@
 //! Tests of declared options: each public call once, what the library reads from an environment,
-//! what `declare!` makes, and the texts of failed conversions.
+//! what `declare!` makes, defaults, and the texts of failed conversions.
 #![tactic(auto)]
 
 #[cfg(test)]
@@ -8,6 +8,8 @@ mod archive;
 mod calls;
 #[cfg(test)]
 mod declarations;
+#[cfg(test)]
+mod defaults;
 #[cfg(test)]
 mod environment;
 #[cfg(test)]

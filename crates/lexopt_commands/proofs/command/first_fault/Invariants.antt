@@ -1,5 +1,4 @@
-use Rattle.std.proofs.Common.{◌≡◌, []}
-use Rattle.lexopt_commands.specs.Names.{first_fault, names_of}
+use Rattle.lexopt_commands.proofs.Common.{◌≡◌, [], first_fault, names_of}
 use Rattle.lexopt_commands.proofs.FirstFaults.{found_from}
 use Rattle.lexopt_commands.proofs.command.first_fault.Given as goal
 

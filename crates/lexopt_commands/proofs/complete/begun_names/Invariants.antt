@@ -1,6 +1,4 @@
-use Rattle.std.proofs.Common.{◌≡◌, string_bytes, take}
-use Rattle.std.specs.List.{flat_map}
-use Rattle.lexopt_commands.specs.Completions.{begun_line}
+use Rattle.lexopt_commands.proofs.Common.{◌≡◌, string_bytes, take, flat_map, begun_line}
 use Rattle.lexopt_commands.proofs.complete.begun_names.Given as goal
 
 abbrev pub invariant-loop-command : goal.invariant-loop-command

@@ -1,5 +1,4 @@
-use Rattle.std.proofs.Common.{ap, ◌∙◌}
-use Rattle.lexopt_commands.specs.Meanings.{command_at}
+use Rattle.lexopt_commands.proofs.Common.{ap, ◌∙◌, command_at}
 use Rattle.lexopt_commands.proofs.read.command_of.Goals as goal
 
 pub returns : goal.returns

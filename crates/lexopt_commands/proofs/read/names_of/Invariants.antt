@@ -1,5 +1,4 @@
-use Rattle.std.proofs.Common.{◌≡◌, map, take}
-use Rattle.lexopt_commands.specs.Names.{names_of}
+use Rattle.lexopt_commands.proofs.Common.{◌≡◌, map, take, names_of}
 use Rattle.lexopt_commands.proofs.read.names_of.Given as goal
 
 abbrev pub invariant-loop-command : goal.invariant-loop-command

@@ -1,5 +1,6 @@
-use Rattle.std.proofs.Common.{◌≡◌, ◌++◌, ◌∙◌, List, ℕ, ap, string_bytes}
-use Rattle.lexopt_options_spec.specs.Help.{set_apart}
+use Rattle.std.proofs.Common.{◌≡◌, ◌++◌, ◌∙◌, List, ℕ, ap, subst, string_bytes}
+use Rattle.std.specs.List.{AllZip}
+use Rattle.lexopt_options_spec.specs.Help.{IsParagraph, set_apart}
 use Rattle.lexopt_declaration.proofs.help.help.Goals as goal
 
 appended : (old part text new : List ℕ) → new ≡ old ++ set_apart part → part ≡ text → new ≡ old ++ set_apart text
@@ -28,6 +29,6 @@ returns g c =
       about_next = a.1;
       each_positional = ps.1;
       each_option = os.1;
-      each_paragraph = e.1;
+      each_paragraph = subst (λ l. AllZip (IsParagraph c.args.width) l e.0) c.shown_epilogue-epilogue.ensures e.1;
       written = in_parts _ a.0 _ _ _ _ _ _ _ a.2 positionals os.2 e.2;
     }

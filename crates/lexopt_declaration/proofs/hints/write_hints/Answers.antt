@@ -1,6 +1,5 @@
-use Rattle.std.proofs.Common.{arith}
+use Rattle.lexopt_declaration.proofs.Common.{arith, common_steps}
 use Rattle.std.proofs.Output.{has_written_of_eq}
-use Rattle.std.proofs.lemmas.Grind.{common_steps}
 use Rattle.lexopt_declaration.proofs.Hinted.{several_text}
 use Rattle.lexopt_declaration.proofs.hints.write_hints.Goals as goal
 

@@ -1,6 +1,4 @@
-use Rattle.std.proofs.Common.{◌++◌, List, ℕ, Bor, codes, map, take}
-use Rattle.std.specs.List.{flat_map}
-use Rattle.std.specs.Fmt.{HasWritten, IsPlainFormatter}
+use Rattle.lexopt_declaration.proofs.Common.{◌++◌, List, ℕ, Bor, codes, map, take, flat_map, HasWritten, IsPlainFormatter}
 use Rattle.lexopt_declaration.specs.Texts.{name_in_quotes}
 use Rattle.lexopt_declaration.proofs.hints.write_others.Given as goal
 

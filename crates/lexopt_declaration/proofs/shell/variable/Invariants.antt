@@ -1,5 +1,4 @@
-use Rattle.std.proofs.Common.{◌≡◌, ◌++◌, codes, map, string_bytes, take}
-use Rattle.lexopt_declaration.specs.Scripts.{variable_byte}
+use Rattle.lexopt_declaration.proofs.Common.{◌≡◌, ◌++◌, codes, map, string_bytes, take, variable_byte}
 use Rattle.lexopt_declaration.proofs.shell.variable.Given as goal
 
 abbrev pub invariant-loop-byte : goal.invariant-loop-byte

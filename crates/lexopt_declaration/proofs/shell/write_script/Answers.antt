@@ -1,9 +1,5 @@
-use Rattle.std.proofs.Common.{[], flat_map, map-id, refl, sym, ap, ◌∙◌}
+use Rattle.lexopt_declaration.proofs.Common.{[], flat_map, map-id, refl, sym, ap, ◌∙◌, YieldsList-from_chars, YieldsList-end, flat_map_more, script_character}
 use Rattle.std.proofs.Output.{has_written_append, has_written_of_eq}
-use Rattle.std.proofs.lemmas.Iterator.{YieldsList-from_chars}
-use Rattle.std.proofs.lemmas.Iterator.Consumers.{YieldsList-end}
-use Rattle.std.proofs.lemmas.List.{flat_map_more}
-use Rattle.lexopt_declaration.specs.Scripts.{script_character}
 use Rattle.lexopt_declaration.proofs.shell.write_script.Goals as goal
 
 pub loop-character-preserved : goal.loop-character-preserved

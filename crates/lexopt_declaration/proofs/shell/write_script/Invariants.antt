@@ -1,6 +1,4 @@
-use Rattle.std.proofs.Common.{flat_map}
-use Rattle.std.specs.Fmt.{HasWritten, IsPlainFormatter}
-use Rattle.lexopt_declaration.specs.Scripts.{script_character}
+use Rattle.lexopt_declaration.proofs.Common.{flat_map, HasWritten, IsPlainFormatter, script_character}
 use Rattle.lexopt_declaration.proofs.shell.write_script.Given as goal
 
 abbrev pub invariant-loop-character : goal.invariant-loop-character

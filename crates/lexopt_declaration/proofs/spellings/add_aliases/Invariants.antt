@@ -1,7 +1,4 @@
-use Rattle.std.proofs.Common.{◌≡◌, ◌++◌, false, map, take}
-use Rattle.std.specs.List.{flat_map}
-use Rattle.lexopt_options_spec.specs.Completion.{offered, spelled}
-use Rattle.lexopt_declaration.specs.Models.{names_list, spelling_view}
+use Rattle.lexopt_declaration.proofs.Common.{◌≡◌, ◌++◌, false, map, take, flat_map, offered, spelled, names_list, spelling_view}
 use Rattle.lexopt_declaration.proofs.spellings.add_aliases.Given as goal
 
 abbrev pub invariant-loop-names : goal.invariant-loop-names

@@ -1,5 +1,4 @@
-use Rattle.std.proofs.Common.{◌≡◌, ◌++◌, map, take, filter, nat_eq, string_bytes}
-use Rattle.std.specs.List.{starts_with}
+use Rattle.lexopt_declaration.proofs.Common.{◌≡◌, ◌++◌, map, take, filter, nat_eq, string_bytes, starts_with}
 use Rattle.lexopt_declaration.proofs.spellings.add_joined_words.Given as goal
 
 abbrev pub invariant-loop-value : goal.invariant-loop-value

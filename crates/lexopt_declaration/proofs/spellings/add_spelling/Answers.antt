@@ -1,6 +1,4 @@
-use Rattle.std.proofs.Common.{◌++◌, append-nil, ap, false, map, string_bytes, sym, true, ◌∙◌}
-use Rattle.std.proofs.lemmas.List.{map-append}
-use Rattle.lexopt_declaration.specs.Models.{spelling_view}
+use Rattle.lexopt_declaration.proofs.Common.{◌++◌, append-nil, ap, false, map, string_bytes, sym, true, ◌∙◌, map-append, spelling_view}
 use Rattle.lexopt_declaration.proofs.Spelled.{if_offered}
 use Rattle.lexopt_declaration.proofs.spellings.add_spelling.Goals as goal
 

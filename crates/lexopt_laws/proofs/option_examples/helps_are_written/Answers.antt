@@ -1,7 +1,8 @@
 use Rattle.std.proofs.Common.{List, ℕ, [], ◌∷◌, ◌++◌, true, codes, refl, lit≤, lit<}
 use Rattle.bstr.proofs.Computing.{computing}
-use Rattle.lexopt_options_spec.specs.Help.{columns, label, with_list, IsParagraph, IsEntry, IsUsage}
-use Rattle.lexopt_laws.specs.Sample.{listed_mode, mode_in_list, options_with_headings, verbose, output, backup, exclude, asks_for_help, sample, sample_options, files, described_files, mode, target}
+use Rattle.lexopt_options_spec.specs.Declaration.{brief, full}
+use Rattle.lexopt_options_spec.specs.Help.{columns, label, option_text, with_list, IsParagraph, IsEntry, IsUsage}
+use Rattle.lexopt_laws.specs.Sample.{explained_mode, listed_mode, mode_in_list, options_with_headings, verbose, output, backup, exclude, asks_for_help, sample, sample_options, files, described_files, mode, target}
 use Rattle.lexopt_laws.proofs.WorkedLines.{alone, fits, one_usage}
 use Rattle.lexopt_laws.proofs.option_examples.helps_are_written.Goals as goal
 
@@ -315,5 +316,59 @@ returns-clause-hidden_list c = record {
   each_positional = tt;
   each_option = (alone unlisted_entry refl, tt);
   each_paragraph = tt;
+  written = refl;
+}
+
+usage_when_explained : IsUsage 80 (record (sample [] true) { options = explained_mode ∷ []; about = []; epilogue = codes "No file is changed." ∷ [] }) (codes "Usage: example_archive [OPTION]...\n")
+unfolding columns computing
+usage_when_explained = one_usage (codes "example_archive [OPTION]...\n") (record {
+  lines = (codes "example_archive" ∷ codes "[OPTION]..." ∷ []) ∷ [];
+  wrapped = record { in_order = refl; fit = (fits (lit< tt) (lit≤ tt), tt); full = tt };
+  written = refl;
+}) refl
+
+brief_entry : IsEntry 80 (label explained_mode) (option_text brief explained_mode) (codes "  -m, --mode=MODE       how to pack: one of fast, slow [default: fast]\n")
+unfolding columns computing
+brief_entry = record {
+  lines = (codes "how" ∷ codes "to" ∷ codes "pack:" ∷ codes "one" ∷ codes "of" ∷ codes "fast," ∷ codes "slow" ∷ codes "[default:" ∷ codes "fast]" ∷ []) ∷ [];
+  wrapped = record { in_order = refl; fit = (fits (lit< tt) (lit≤ tt), tt); full = tt };
+  written = refl;
+}
+
+full_entry : IsEntry 80 (label explained_mode) (option_text full explained_mode) (codes "  -m, --mode=MODE       How to pack. One of fast, slow. [default: fast]\n")
+unfolding columns computing
+full_entry = record {
+  lines = (codes "How" ∷ codes "to" ∷ codes "pack." ∷ codes "One" ∷ codes "of" ∷ codes "fast," ∷ codes "slow." ∷ codes "[default:" ∷ codes "fast]" ∷ []) ∷ [];
+  wrapped = record { in_order = refl; fit = (fits (lit< tt) (lit≤ tt), tt); full = tt };
+  written = refl;
+}
+
+pub returns-clause-in_brief : goal.returns-clause-in_brief
+returns-clause-in_brief c = record {
+  usage = codes "Usage: example_archive [OPTION]...\n";
+  about = [];
+  positionals = [];
+  options = codes "  -m, --mode=MODE       how to pack: one of fast, slow [default: fast]\n" ∷ [];
+  epilogue = [];
+  usage_first = usage_when_explained;
+  about_next = no_about;
+  each_positional = tt;
+  each_option = (alone brief_entry refl, tt);
+  each_paragraph = tt;
+  written = refl;
+}
+
+pub returns-clause-in_full : goal.returns-clause-in_full
+returns-clause-in_full c = record {
+  usage = codes "Usage: example_archive [OPTION]...\n";
+  about = [];
+  positionals = [];
+  options = codes "  -m, --mode=MODE       How to pack. One of fast, slow. [default: fast]\n" ∷ [];
+  epilogue = codes "No file is changed.\n" ∷ [];
+  usage_first = usage_when_explained;
+  about_next = no_about;
+  each_positional = tt;
+  each_option = (alone full_entry refl, tt);
+  each_paragraph = (last_paragraph, tt);
   written = refl;
 }

@@ -1,6 +1,4 @@
-use Rattle.std.proofs.Common.{◌≡◌, ◌++◌, map, string_bytes, take}
-use Rattle.std.specs.List.{flat_map}
-use Rattle.lexopt_declaration.specs.Models.{positional_view}
+use Rattle.lexopt_options.proofs.Common.{◌≡◌, ◌++◌, map, string_bytes, take, flat_map, positional_view}
 use Rattle.lexopt_options.specs.Completions.{words_so}
 use Rattle.lexopt_options.proofs.complete.add_words.Given as goal
 

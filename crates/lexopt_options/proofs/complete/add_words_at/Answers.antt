@@ -1,6 +1,4 @@
-use Rattle.std.proofs.Common.{ap, map, option_map, string_bytes, ◌∙◌}
-use Rattle.std.proofs.lemmas.Option.{slice_get-map}
-use Rattle.lexopt_declaration.specs.Models.{positional_view}
+use Rattle.lexopt_options.proofs.Common.{ap, map, option_map, string_bytes, ◌∙◌, slice_get-map, positional_view}
 use Rattle.lexopt_options.proofs.Accepted.{at_place}
 use Rattle.lexopt_options.proofs.Completing.{no_words_past}
 use Rattle.lexopt_options.proofs.complete.add_words_at.Goals as goal

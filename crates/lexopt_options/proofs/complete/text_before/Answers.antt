@@ -1,7 +1,5 @@
-use Rattle.std.proofs.Common.{◌++◌, ap, subst, sym, ◌∙◌}
-use Rattle.std.specs.Str.{IsUtf8}
+use Rattle.lexopt_options.proofs.Common.{◌++◌, ap, subst, sym, ◌∙◌, IsUtf8, append_cancel_right}
 use Rattle.std.proofs.lemmas.Bool.Decides.{Decides-eqb}
-use Rattle.std.proofs.lemmas.List.{append_cancel_right}
 use Rattle.std.proofs.lemmas.Slice.Eq.{strip_suffix_is}
 use Rattle.lexopt_options.proofs.complete.text_before.Goals as goal
 

@@ -1,10 +1,6 @@
-use Rattle.std.proofs.Common.{◌∙◌, ℕ, List, None, Ok, Some, ap, not, position, refl, subst, sym}
-use Rattle.std.proofs.lemmas.Bool.{false≢true}
+use Rattle.lexopt_options.proofs.Common.{◌∙◌, ℕ, List, None, Ok, Some, ap, not, position, refl, subst, sym, false≢true, words_view, refusal_reply, ReadsValues, ValuesEndBy}
 use Rattle.lexopt_options_spec.specs.Declaration as declared
-use Rattle.lexopt_declaration.specs.Models.{words_view}
 use Rattle.lexopt_declaration.specs.declared.declaration.Kind.TheVariants as kind
-use Rattle.lexopt_base.specs.Refusals.{refusal_reply}
-use Rattle.lexopt_line_spec.specs.Values.{ReadsValues, ValuesEndBy}
 use Rattle.lexopt_line_spec.specs.Table as arity
 use Rattle.lexopt_line_spec.specs.Values as values
 use Rattle.lexopt_options.specs.declared.front.AfterName.TheVariants as after

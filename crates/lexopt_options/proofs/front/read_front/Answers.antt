@@ -1,14 +1,9 @@
-use Rattle.std.proofs.Common.{◌∙◌, None, Some, arith, ap, length, refl, subst, sym}
-use Rattle.std.proofs.lemmas.Bool.{false≢true}
+use Rattle.lexopt_options.proofs.Common.{◌∙◌, None, Some, arith, ap, length, refl, sym, false≢true, state_at_end, declaration_of, options_of}
 use Rattle.lexopt_line_spec.proofs.Bounds.{positional_falls}
-use Rattle.lexopt_options_spec.specs.States.{state_at_end}
-use Rattle.lexopt_options.specs.Declarations.{declaration_of, options_of}
 use Rattle.lexopt_options.proofs.Beginnings.{end_begun, lacking_begun, missing_begun, rest_begun, separated_begun, undeclared_begun, unexpected_begun}
 use Rattle.lexopt_options.proofs.Keys.{found_within}
-use Rattle.lexopt_options.proofs.Fronts.{has_nothing, has_option, has_positional, option_there, same_reached, starts}
+use Rattle.lexopt_options.proofs.Fronts.{has_nothing, has_option, has_positional, option_there}
 use Rattle.lexopt_options.proofs.ReadKeys.{not_separated}
-use Rattle.lexopt_options.specs.Begun.{IsBegun}
-use Rattle.lexopt_options.specs.RestStarts.{start_view}
 use Rattle.lexopt_options.proofs.front.read_front.Goals as goal
 
 pub loop-last-init : goal.loop-last-init
@@ -43,7 +38,7 @@ loop-last-preserved-in-Values g c =
     let given = rw c.in-Values.is at c.in_ok-accepted-in-Option.ensures (declaration_of o) at in
     let has = has_option (declaration_of o) c.args.parser.now c.loop-last.parser c.read_next.new.parser c.read_after_name.new.parser c.loop-last.words.items c.loop-last.all_accepted c.in-Values.accepted c.loop-last.last c.loop-last.going_on
     c.in-Values.first c.in-Values.goes_on next.0 c.in-Option.index o.sound c.loop-last.invariant.0 next.1 next.2 given in (
-      same_reached (declaration_of o) c.args.parser.now c.read_after_name.new.parser c.loop-last.words.items _ _ _ _ _ _ c.are_both-all_accepted.ensures c.with_index-last.ensures c.index_if-going_on.ensures has.0,
+      rw (c.are_both-all_accepted.ensures, c.with_index-last.ensures, c.index_if-going_on.ensures) has.0,
       λ is. has.2,
     )
 
@@ -54,7 +49,7 @@ returns-in-Lacks g c = λ words is.
     let at = option_there (options_of o) c.options-declared.result.now c.index-declared-index.result next.0 c.in-Option.index c.options-declared.ensures.same next.2 c.index-declared-index.is in
     let given = rw c.in-Lacks.is at c.in_ok-accepted-in-Option.ensures (declaration_of o) at in
     lacking_begun (declaration_of o) c.loop-last.parser c.read_next.new.parser c.read_after_name.new.parser words (record { words = c.loop-last.words; accepted = c.loop-last.all_accepted; last = None; state = c.in-Lacks.state }) c.loop-last.last c.loop-last.going_on
-    next.0 c.in-Option.index o.sound (starts is c.loop-last.invariant.0) refl next.1 next.2 given
+    next.0 c.in-Option.index o.sound (rw is at c.loop-last.invariant.0) refl next.1 next.2 given
 
 pub returns-in-Missing : goal.returns-in-Missing
 returns-in-Missing g c = λ words is.
@@ -62,17 +57,17 @@ returns-in-Missing g c = λ words is.
     let next = rw c.in-Option.is at c.in_ok-index.ensures in
     let at = option_there (options_of o) c.options-declared.result.now c.index-declared-index.result next.0 c.in-Option.index c.options-declared.ensures.same next.2 c.index-declared-index.is in
     let given = rw c.in-Missing.is at c.in_ok-accepted-in-Option.ensures (declaration_of o) at in
-    missing_begun (declaration_of o) c.loop-last.parser c.read_next.new.parser c.read_after_name.new.parser words c.loop-last.words.items c.loop-last.all_accepted c.loop-last.last c.loop-last.going_on next.0 c.in-Option.index o.sound (starts is c.loop-last.invariant.0) next.1 next.2 given
+    missing_begun (declaration_of o) c.loop-last.parser c.read_next.new.parser c.read_after_name.new.parser words c.loop-last.words.items c.loop-last.all_accepted c.loop-last.last c.loop-last.going_on next.0 c.in-Option.index o.sound (rw is at c.loop-last.invariant.0) next.1 next.2 given
 
 pub returns-then-is_separated : goal.returns-then-is_separated
 returns-then-is_separated g c = λ words is.
-    separated_begun c.args.begins (declaration_of c.args.options.now) c.loop-last.parser c.read_next.new.parser words c.loop-last.words.items c.in-Positional.word c.loop-last.all_accepted c.loop-last.last c.loop-last.going_on c.args.options.now.sound (starts is c.loop-last.invariant.0)
+    separated_begun c.args.begins (declaration_of c.args.options.now) c.loop-last.parser c.read_next.new.parser words c.loop-last.words.items c.in-Positional.word c.loop-last.all_accepted c.loop-last.last c.loop-last.going_on c.args.options.now.sound (rw is at c.loop-last.invariant.0)
     c.loop-last.invariant.1 (rw c.in-Positional.is at c.in_ok-index.ensures) (sym c.is_separated.ensures ∙ c.if-is_separated.true)
 
 pub returns-then-is_full : goal.returns-then-is_full
 returns-then-is_full g c = λ words is.
-    subst (λ b. IsBegun (start_view c.args.begins) (declaration_of c.args.options.now) words b c.read_next.new.parser) (sym c.surplus_begun.ensures)
-    (rest_begun c.args.begins (declaration_of c.args.options.now) c.loop-last.parser c.read_next.new.parser words c.loop-last.words.items c.in-Positional.word c.loop-last.all_accepted c.loop-last.last c.loop-last.going_on c.args.options.now.sound (starts is c.loop-last.invariant.0) (rw c.in-Positional.is at c.in_ok-index.ensures)
+    rw c.surplus_begun.ensures
+    (rest_begun c.args.begins (declaration_of c.args.options.now) c.loop-last.parser c.read_next.new.parser words c.loop-last.words.items c.in-Positional.word c.loop-last.all_accepted c.loop-last.last c.loop-last.going_on c.args.options.now.sound (rw is at c.loop-last.invariant.0) (rw c.in-Positional.is at c.in_ok-index.ensures)
     (sym c.is_separated.ensures ∙ c.if-is_separated.false) (sym c.most-limit.ensures ∙ c.is_full.ensures.0 c.if-is_full.true ∙ ap (λ n. Some n) (c.len.ensures ∙ c.loop-last.words.ok.0)))
 
 pub loop-last-smaller : goal.loop-last-smaller
@@ -92,14 +87,14 @@ pub returns-in-End : goal.returns-in-End
 returns-in-End g c = λ words is.
     let step = rw c.in-End.is at c.in_ok-index.ensures in
     end_begun c.args.begins (declaration_of c.args.options.now) c.loop-last.parser c.read_next.new.parser words (record { words = c.loop-last.words; accepted = c.loop-last.all_accepted; last = c.loop-last.last; state = c.state_at_end.result }) c.loop-last.going_on
-    c.args.options.now.sound (starts is c.loop-last.invariant.0) c.loop-last.invariant.1 step (c.state_at_end.ensures ∙ ap (state_at_end c.loop-last.going_on) c.is_past_separator.ensures)
+    c.args.options.now.sound (rw is at c.loop-last.invariant.0) c.loop-last.invariant.1 step (c.state_at_end.ensures ∙ ap (state_at_end c.loop-last.going_on) c.is_past_separator.ensures)
 
 pub returns-in-Undeclared : goal.returns-in-Undeclared
 returns-in-Undeclared g c = λ words is.
-    undeclared_begun (declaration_of c.args.options.now) c.loop-last.parser c.read_next.new.parser words c.loop-last.words.items c.loop-last.all_accepted c.loop-last.last c.loop-last.going_on c.in-Undeclared.field-0 (starts is c.loop-last.invariant.0)
+    undeclared_begun (declaration_of c.args.options.now) c.loop-last.parser c.read_next.new.parser words c.loop-last.words.items c.loop-last.all_accepted c.loop-last.last c.loop-last.going_on c.in-Undeclared.field-0 (rw is at c.loop-last.invariant.0)
     (rw c.in-Undeclared.is at c.in_ok-index.ensures)
 
 pub returns-in-Unexpected : goal.returns-in-Unexpected
 returns-in-Unexpected g c = λ words is.
-    unexpected_begun (declaration_of c.args.options.now) c.loop-last.parser c.read_next.new.parser words c.loop-last.words.items c.loop-last.all_accepted c.loop-last.last c.loop-last.going_on _ _ (starts is c.loop-last.invariant.0)
+    unexpected_begun (declaration_of c.args.options.now) c.loop-last.parser c.read_next.new.parser words c.loop-last.words.items c.loop-last.all_accepted c.loop-last.last c.loop-last.going_on _ _ (rw is at c.loop-last.invariant.0)
     (rw c.in-Unexpected.is at c.in_ok-index.ensures)

@@ -1,6 +1,5 @@
-use Rattle.std.specs.Prelude.{◌≡◌, false}
+use Rattle.lexopt_options.proofs.Common.{◌≡◌, false, declaration_of}
 use Rattle.lexopt_line_spec.specs.Bound.{bound}
-use Rattle.lexopt_options.specs.Declarations.{declaration_of}
 use Rattle.lexopt_options.specs.declared.rest.RestStart.TheVariants.{Separated}
 use Rattle.lexopt_options.proofs.Fronts.{HasReached}
 use Rattle.lexopt_options.proofs.front.read_front.Given as goal

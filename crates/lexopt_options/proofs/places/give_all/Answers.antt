@@ -1,7 +1,4 @@
-use Rattle.std.proofs.Common.{arith, ap, get_or, map, refl, subst, sym, ◌-◌, ◌<◌, ◌∙◌}
-use Rattle.std.proofs.lemmas.List.{get_or_default}
-use Rattle.lexopt_declaration.specs.Models.{positional_view}
-use Rattle.lexopt_options_spec.specs.Places.{least}
+use Rattle.lexopt_options.proofs.Common.{arith, ap, get_or, map, refl, sym, ◌-◌, ◌∙◌, get_or_default, positional_view, least}
 use Rattle.lexopt_options.proofs.Given.{after, all_given, counted, done_more, done_none, have_keys, parsed_still, word_below, word_count}
 use Rattle.lexopt_options.proofs.Owners.{first_keys}
 use Rattle.lexopt_options.proofs.places.give_all.Goals.{then-give_key, else-give_key}
@@ -40,15 +37,3 @@ pub returns-clause-keys : goal.returns-clause-keys
 returns-clause-keys g c = λ can.
     have_keys c.args.positionals.now c.args.parsed.now c.loop-own.parsed
     (all_given c.args.positionals.now (word_count c.args.parsed.now) c.args.parsed.now c.loop-own.parsed c.loop-own.own-index c.loop-own.word c.loop-own.invariant c.loop-own.auto.parsed c.loop-own-test.false) can.within
-
-pub bounds-parsed-own-index : goal.bounds-parsed-own-index
-bounds-parsed-own-index g c = subst (λ n. c.loop-own.own-index < n) (sym c.loop-own.auto.parsed) c.loop-own-test.true
-
-pub returns-clause-length : goal.returns-clause-length
-returns-clause-length g c = c.loop-own.auto.parsed
-
-pub returns-then-positionals-lt2-clause-length : goal.returns-then-positionals-lt2-clause-length
-returns-then-positionals-lt2-clause-length g c = refl
-
-pub returns-then-positionals-lt2-clause-same : goal.returns-then-positionals-lt2-clause-same
-returns-then-positionals-lt2-clause-same g c = λ options l are. are

@@ -1,5 +1,4 @@
-use Rattle.std.proofs.Common.{◌∙◌, map, refl, sym}
-use Rattle.lexopt_declaration.specs.Models.{positional_view}
+use Rattle.lexopt_options.proofs.Common.{◌∙◌, map, refl, sym, positional_view}
 use Rattle.lexopt_options.proofs.Owners.{has_its_key, no_place, place_past, place_there}
 use Rattle.lexopt_options.proofs.places.key_of.Goals as goal
 

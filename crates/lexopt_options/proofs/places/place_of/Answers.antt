@@ -1,6 +1,4 @@
-use Rattle.std.proofs.Common.{arith, map, sym}
-use Rattle.std.proofs.lemmas.List.{length-map}
-use Rattle.lexopt_declaration.specs.Models.{positional_view}
+use Rattle.lexopt_options.proofs.Common.{arith, map, sym, length-map, positional_view}
 use Rattle.lexopt_options.proofs.Owners.{found_here, found_later, nothing_left, viewed}
 use Rattle.lexopt_options.proofs.places.place_of.Goals as goal
 

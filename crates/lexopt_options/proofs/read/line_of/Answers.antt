@@ -5,6 +5,7 @@ use Rattle.lexopt_options_spec.proofs.Taken.{words_count}
 use Rattle.lexopt_options.specs.Declarations.{declaration_of, options_of}
 use Rattle.lexopt_options.specs.Keys.{CanHaveKeys, HaveKeys, parsed_words}
 use Rattle.lexopt_options.specs.Reading.{AreSeen}
+use Rattle.lexopt_options.proofs.Defaults.{keys_same}
 use Rattle.lexopt_options.proofs.KeysGiven.{can_have}
 use Rattle.lexopt_options.proofs.ReadKeys.{stopped_with}
 use Rattle.lexopt_options.proofs.TakenWords.{words_are}
@@ -30,13 +31,16 @@ returns-in-End g c = λ words v ended.
     let had = read.1 in
     let own = words_are (options_of o) had.l c.args.read.parsed.items had.are ∙ ap parsed_words (sym c.deref.ensures.value) in
     let seen = subst (λ (l : List ℕ). AreSeen d.options had.l l) (sym c.deref-in-End.ensures.value) had.are_seen in
-    let right = rw c.in-None.is at c.in_ok-mistake-in-End.ensures (had.counted ∙ sym (words_count had.l) ∙ ap length own) (subst (λ n. IsWithin n (most d.positionals)) (sym had.counted) had.read.within) in (
+    let noted = subst (λ (l : List ℕ). AreSeen d.options had.l l) (sym c.deref-in-None.ensures.value) had.are_seen in
+    let right = rw c.in-None.is at c.in_ok-mistake-in-End.ensures (had.counted ∙ sym (words_count had.l) ∙ ap length own) (subst (λ n. IsWithin n (most d.positionals)) (sym had.counted) had.read.within) in
+    let all = c.in_ok-all-in-None.ensures had.l noted (c.give_keys.ensures.same (options_of o) had.l had.are) in (
       had.l,
       line_parsed d words had.l read.0 v _ c.deref-in-End.result.now o.sound had.read own seen read.2 right had.accepted,
       had.none,
-      c.give_keys.ensures.same (options_of o) had.l had.are,
-      subst (λ ps. HaveKeys ps c.give_keys.new.parsed.items) c.positionals.ensures.same
-          (c.give_keys.ensures.keys (subst (λ ps. CanHaveKeys ps c.args.read.parsed.items) (sym c.positionals.ensures.same) (can_have o had.l c.args.read.parsed.items had.read.within had.are had.firsts))),
+      all.0,
+      subst (λ ps. HaveKeys ps c.in_ok-all-in-None.all.items) c.positionals.ensures.same
+          (keys_same c.positionals.result.now c.in_ok-all-in-None.all.items c.give_keys.new.parsed.items all.1
+          (c.give_keys.ensures.keys (subst (λ ps. CanHaveKeys ps c.args.read.parsed.items) (sym c.positionals.ensures.same) (can_have o had.l c.args.read.parsed.items had.read.within had.are had.firsts)))),
     )
 
 pub returns-in-Positional : goal.returns-in-Positional

@@ -7,7 +7,7 @@ use Rattle.lexopt_options.specs.declared.parsed.Asked.TheVariants as asked
 use Rattle.lexopt_options.specs.declared.parsed.Parsed.TheVariants as parsed
 use Rattle.lexopt_options.specs.declared.parsed.ByKey.TheVariants as told
 use Rattle.lexopt_options.specs.Declarations.{declaration_of, options_of}
-use Rattle.lexopt_options.proofs.Keys.{tells_flag, tells_help, tells_maybe, tells_value, tells_values, tells_version}
+use Rattle.lexopt_options.proofs.Keys.{tells_flag, tells_brief_help, tells_help, tells_maybe, tells_value, tells_values, tells_version}
 use Rattle.lexopt_options_spec.specs.Declaration as spec
 use Rattle.lexopt_declaration.specs.Models.{option_view, words_view}
 use Rattle.lexopt_options.proofs.Accepted.{first_refused, place_refused, value_accepted, value_refused, view_there}
@@ -30,6 +30,14 @@ returns-in-Help g c = λ o index count u name at step found.
     let view = view_there (options_of o) index r at in
     read_so o count u c.args.parser.now c.args.parser.now name arity.flag index (values.at_most_one None) (told.Asked asked.Help)
     (kind_here d.options index r kind.Help view c.in-Help.is) step found refl (tells_help o index r at c.in-Help.is) refl
+
+pub returns-in-BriefHelp : goal.returns-in-BriefHelp
+returns-in-BriefHelp g c = λ o index count u name at step found.
+    let d = declaration_of o in
+    let r = c.args.option.now in
+    let view = view_there (options_of o) index r at in
+    read_so o count u c.args.parser.now c.args.parser.now name arity.flag index (values.at_most_one None) (told.Asked asked.BriefHelp)
+    (kind_here d.options index r kind.BriefHelp view c.in-BriefHelp.is) step found refl (tells_brief_help o index r at c.in-BriefHelp.is) refl
 
 pub returns-in-Version : goal.returns-in-Version
 returns-in-Version g c = λ o index count u name at step found.

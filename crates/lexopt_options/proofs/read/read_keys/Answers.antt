@@ -9,7 +9,8 @@ use Rattle.lexopt_options.specs.declared.parsed.ByKey.TheVariants as told
 use Rattle.lexopt_options.specs.Declarations.{declaration_of, options_of, positionals_of}
 use Rattle.lexopt_options.specs.Keys.{AllFirst, AreParsedAs, HasKey, positional_keys}
 use Rattle.lexopt_options.specs.Reading.{HasRead, noted}
-use Rattle.lexopt_options.proofs.Accepted.{required_is, view_there}
+use Rattle.lexopt_options.proofs.Accepted.{view_there}
+use Rattle.lexopt_options.proofs.Defaults.{noted_is}
 use Rattle.lexopt_options.proofs.Fronts.{option_at}
 use Rattle.lexopt_options.proofs.Keys.{found_within, none_before}
 use Rattle.lexopt_options.proofs.KeysGiven.{first_kept}
@@ -61,7 +62,7 @@ loop-index-preserved-in-Continue-branch-7 g c =
     let read = rw is at c.in_ok-own-in-Option.ensures o c.in-Option.index c.loop-index.read.count c.loop-index.parser next.0 at next.1 next.2 in
     has_option o c.args.begins c.args.parser.now c.loop-index.parser c.read_by_key.new.parser c.loop-index.read.count c.in-Option.index c.loop-index.read.seen.items c.note.new.seen.items c.loop-index.read.parsed.items c.push.new.self.items read.0 c.in-Ok-Parsed.own
     c.loop-index.invariant read.1 read.2.0 read.2.1 read.3 read.4 read.5
-    (c.in_ok-note-in-Ok-Parsed.ensures ∙ ap (λ b. noted b c.in-Option.index c.loop-index.read.seen.items) (sym (required_is (declaration_of o).options c.in-Option.index _ (view_there (options_of o) c.in-Option.index c.index-declared-index.result at))))
+    (c.in_ok-note-in-Ok-Parsed.ensures ∙ ap (λ b. noted b c.in-Option.index c.loop-index.read.seen.items) (c.is_noted.ensures ∙ sym (noted_is (declaration_of o).options c.in-Option.index _ (view_there (options_of o) c.in-Option.index c.index-declared-index.result at))))
     c.in_ok-push-in-Ok-Parsed.ensures.items
 
 pub first_key-key-requires : goal.first_key-key-requires

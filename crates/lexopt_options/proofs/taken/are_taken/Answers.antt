@@ -1,7 +1,4 @@
-use Rattle.std.proofs.Common.{ap, arith, is_none, map, sym, ◌∙◌}
-use Rattle.std.proofs.lemmas.List.{drop_all}
-use Rattle.lexopt_declaration.specs.Models.{positional_view}
-use Rattle.lexopt_options_spec.specs.Places.{greedy, owners}
+use Rattle.lexopt_options.proofs.Common.{ap, arith, is_none, map, sym, ◌∙◌, drop_all, positional_view, greedy, owners}
 use Rattle.lexopt_options.proofs.TakenWords.{at_end, at_next, at_no_place, at_refused, takes_all, word_next}
 use Rattle.lexopt_options.proofs.taken.are_taken.Goals.{in-Some+else-not-takes_at, in_default}
 use Rattle.lexopt_options.proofs.taken.are_taken.Goals as goal

@@ -1,6 +1,5 @@
-use Rattle.std.proofs.Common.{drop, map}
-use Rattle.lexopt_declaration.specs.Models.{positional_view}
-use Rattle.lexopt_options_spec.specs.Places.{greedy, owners}
+use Rattle.lexopt_options.proofs.Common.{drop, map, positional_view, greedy}
+use Rattle.lexopt_options.proofs.Common.{owners}
 use Rattle.lexopt_options.proofs.TakenWords.{IsAt}
 use Rattle.lexopt_options.proofs.taken.are_taken.Given as goal
 

@@ -1,7 +1,4 @@
-use Rattle.std.proofs.Common.{arith, map, refl, sym, ◌-◌, ◌≤◌, ◌∙◌}
-use Rattle.std.proofs.lemmas.Bool.{false≢true}
-use Rattle.lexopt_declaration.specs.Models.{positional_view}
-use Rattle.lexopt_options_spec.specs.Places.{least}
+use Rattle.lexopt_options.proofs.Common.{arith, map, refl, sym, ◌-◌, ◌≤◌, ◌∙◌, false≢true, positional_view, least}
 use Rattle.lexopt_options.specs.Taken.{Fits}
 use Rattle.lexopt_options.proofs.TakenWords.{and_not, none_fits}
 use Rattle.lexopt_options.proofs.taken.can_fit.Goals as goal

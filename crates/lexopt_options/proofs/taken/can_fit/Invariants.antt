@@ -1,6 +1,4 @@
-use Rattle.std.proofs.Common.{◌≤◌, ◌<◌, ◌-◌, ℕ, map}
-use Rattle.lexopt_declaration.specs.Models.{positional_view}
-use Rattle.lexopt_options_spec.specs.Places.{least}
+use Rattle.lexopt_options.proofs.Common.{◌≤◌, ◌<◌, ◌-◌, ℕ, map, positional_view, least}
 use Rattle.lexopt_options.specs.Taken.{Fits}
 use Rattle.lexopt_options.proofs.taken.can_fit.Given as goal
 

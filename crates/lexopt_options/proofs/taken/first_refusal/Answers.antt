@@ -1,8 +1,6 @@
-use Rattle.std.proofs.Common.{arith, map, subst, sym, ◌∙◌}
-use Rattle.lexopt_declaration.specs.Models.{positional_view}
-use Rattle.lexopt_options_spec.specs.Places.{greedy, owners}
+use Rattle.lexopt_options.proofs.Common.{arith, map, subst, sym, ◌∙◌, at_drop_all, positional_view, greedy, owners}
 use Rattle.lexopt_options.specs.Keys.{parsed_words}
-use Rattle.lexopt_options.proofs.TakenWords.{IsAt, at_end, at_next, at_no_place, at_refused, parsed_no_word, parsed_past, parsed_word}
+use Rattle.lexopt_options.proofs.TakenWords.{IsAt, at_end, at_next, at_no_place, at_refused, parsed_no_word, parsed_word}
 use Rattle.lexopt_options.proofs.taken.first_refusal.Goals.{in-Positional, in-Some+in_ok-mistake+in_default-2, in_default-place_of, in_default}
 use Rattle.lexopt_options.proofs.taken.first_refusal.Goals as goal
 
@@ -36,4 +34,4 @@ loop-own-preserved g c =
 pub returns : goal.returns
 returns g c =
     let ps = map positional_view c.args.positionals.now in
-    at_end ps (owners 0 (greedy ps c.args.spare)) _ _ c.loop-own.index c.loop-own.invariant.1 (parsed_past c.args.parsed.now c.loop-own.own-index (omega (arith, c.loop-own-test.false)))
+    at_end ps (owners 0 (greedy ps c.args.spare)) _ _ c.loop-own.index c.loop-own.invariant.1 (at_drop_all parsed_words c.args.parsed.now c.loop-own.own-index (omega (arith, c.loop-own-test.false)))

@@ -1,6 +1,4 @@
-use Rattle.std.proofs.Common.{◌≤◌, drop, map}
-use Rattle.lexopt_declaration.specs.Models.{positional_view}
-use Rattle.lexopt_options_spec.specs.Places.{greedy, owners}
+use Rattle.lexopt_options.proofs.Common.{◌≤◌, drop, map, positional_view, greedy, owners}
 use Rattle.lexopt_options.specs.Keys.{parsed_words}
 use Rattle.lexopt_options.proofs.TakenWords.{IsAt}
 use Rattle.lexopt_options.proofs.taken.first_refusal.Given as goal

@@ -1,8 +1,5 @@
-use Rattle.std.proofs.Common.{ap, map, sym, ◌-◌, ◌∙◌}
-use Rattle.lexopt_declaration.specs.Models.{positional_view}
-use Rattle.lexopt_options.specs.Declarations.{positionals_of}
+use Rattle.lexopt_options.proofs.Common.{ap, map, sym, ◌-◌, ◌∙◌, positional_view, positionals_of, least}
 use Rattle.lexopt_options.specs.Keys.{parsed_words}
-use Rattle.lexopt_options_spec.specs.Places.{least}
 use Rattle.lexopt_options.proofs.TakenWords.{all_taken, invalid_line, parsed_counted}
 use Rattle.lexopt_options.proofs.taken.invalid_argument.Goals as goal
 

@@ -1,8 +1,5 @@
-use Rattle.std.proofs.Common.{ap, arith, map, sym, ◌+◌, ◌∙◌}
-use Rattle.std.proofs.lemmas.Bool.{false≢true}
-use Rattle.std.proofs.lemmas.List.{length-map}
-use Rattle.lexopt_declaration.specs.Models.{positional_view}
-use Rattle.lexopt_options.proofs.TakenWords.{all_owners, no_owners, not_owner, one_owner, owners_are}
+use Rattle.lexopt_options.proofs.Common.{ap, arith, map, sym, ◌∙◌, false≢true, length-map, positional_view}
+use Rattle.lexopt_options.proofs.TakenWords.{all_owners, no_owners, not_owner, one_owner}
 use Rattle.lexopt_options.proofs.taken.owners_of.Goals.{then-can_own+in_ok-push, else-can_own}
 use Rattle.lexopt_options.proofs.taken.owners_of.Goals as goal
 
@@ -16,7 +13,7 @@ loop-index-preserved g c =
     let are = c.loop-index.invariant in
     elim c.if-can_own.branch [
       | then-can_own+in_ok-push w ↦ one_owner ps c.args.words.now n _ _ are (c.can_own.ensures.0 w.if-can_own.true) (ap (λ v. v.items) w.owners-is ∙ w.in_ok-push.ensures.items)
-      | else-can_own w ↦ owners_are ps c.args.words.now (n + 1) _ _ (sym w.owners-is) (not_owner ps c.args.words.now n _ are (λ own. false≢true (sym w.if-can_own.false ∙ c.can_own.ensures.1 own)))
+      | else-can_own w ↦ rw w.owners-is (not_owner ps c.args.words.now n _ are (λ own. false≢true (sym w.if-can_own.false ∙ c.can_own.ensures.1 own)))
     ]
 
 pub returns : goal.returns

@@ -1,5 +1,4 @@
-use Rattle.std.proofs.Common.{map}
-use Rattle.lexopt_declaration.specs.Models.{positional_view}
+use Rattle.lexopt_options.proofs.Common.{map, positional_view}
 use Rattle.lexopt_options.proofs.TakenWords.{OwnersUpTo}
 use Rattle.lexopt_options.proofs.taken.owners_of.Given as goal
 

@@ -1,8 +1,5 @@
-use Rattle.std.proofs.Common.{ap, refl, sym, ◌∙◌, ◌==◌}
+use Rattle.lexopt_options.proofs.Common.{ap, refl, sym, ◌∙◌, ◌==◌, list_any, invalid_argument, positional_view, words_view}
 use Rattle.std.specs.Cmp.Lexicographic.{pointwise}
-use Rattle.std.specs.List.{list_any}
-use Rattle.lexopt_options_spec.specs.Stops.{invalid_argument}
-use Rattle.lexopt_declaration.specs.Models.{positional_view, words_view}
 use Rattle.lexopt_options.proofs.Accepted.{accepts_by}
 use Rattle.lexopt_options.proofs.taken.refusal.Goals as goal
 

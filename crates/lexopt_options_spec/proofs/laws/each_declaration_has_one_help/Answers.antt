@@ -8,7 +8,7 @@ pub returns-clause-no_other_usage : goal.returns-clause-no_other_usage
 returns-clause-no_other_usage c = λ d width text other one two. one_usage d width text other one two
 
 pub returns-clause-some : goal.returns-clause-some
-returns-clause-some c = λ d width. some_help d width
+returns-clause-some c = some_help
 
 pub returns-clause-no_other : goal.returns-clause-no_other
-returns-clause-no_other c = λ d width text other one two. one_help d width text other one two
+returns-clause-no_other c = one_help

@@ -1,6 +1,6 @@
 use Rattle.std.proofs.Common.{None, Some, option_map, arith, ap, sym, ◌∙◌}
 use Rattle.lexopt_runtime_options.specs.Faults.{reason_view}
-use Rattle.lexopt_runtime_options.proofs.OptionNames.{fault_here, no_more_faults, no_own_fault}
+use Rattle.lexopt_runtime_options.proofs.OptionNames.{fault_here, no_more_faults, no_own_fault, own_fault}
 use Rattle.lexopt_runtime_options.proofs.faults.all_names_fault.Goals as goal
 
 pub loop-names-init : goal.loop-names-init
@@ -18,3 +18,6 @@ loop-names-preserved g c =
 
 pub returns : goal.returns
 returns g c = sym (c.loop-names.invariant ∙ no_more_faults c.args.option.now.aliases.now c.loop-names.names-index (omega (arith, c.loop-names-test.false)))
+
+pub returns-in-Some : goal.returns-in-Some
+returns-in-Some g c = own_fault c.args.option.now (reason_view c.in-Some.reason) (sym (ap (option_map reason_view) c.in-Some.is) ∙ c.names_fault.ensures)

@@ -1,6 +1,7 @@
 use Rattle.std.proofs.Common.{◌≡◌, ◌++◌, ◌∙◌, [], ◌∷◌, ℕ, List, codes, refl, ap, string_bytes, subst, append-nil}
 use Rattle.std.specs.List.{AllZip, flat_map}
-use Rattle.lexopt_options_spec.specs.Help.{IsUsage, IsUsageLine, words_of}
+use Rattle.lexopt_options_spec.specs.Declaration.{full}
+use Rattle.lexopt_options_spec.specs.Help.{IsHelp, IsUsage, IsUsageLine, words_of}
 use Rattle.test_option_callers.specs.Tool.{IsToolUsage, tool}
 use Rattle.test_option_callers.proofs.declared.usage_and_help.Goals as goal
 
@@ -18,3 +19,6 @@ tool_usage_of width text u = (
 
 pub returns-clause-usage : goal.returns-clause-usage
 returns-clause-usage c = tool_usage_of c.args.width (string_bytes c.in_ok-usage.field-0) (subst (λ d. IsUsage c.args.width d (string_bytes c.in_ok-usage.field-0)) c.new-options.ensures.declaration c.in_ok-usage.ensures)
+
+pub returns-clause-help : goal.returns-clause-help
+returns-clause-help c = subst (λ d. IsHelp full d c.args.width (string_bytes c.in_ok-help.field-0)) c.new-options.ensures.declaration c.in_ok-help.ensures

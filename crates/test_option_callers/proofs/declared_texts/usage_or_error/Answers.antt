@@ -1,4 +1,5 @@
-use Rattle.std.proofs.Common.{[], ◌∷◌, codes, false, map, refl, true}
+use Rattle.std.proofs.Common.{[], ◌∷◌, None, codes, false, map, refl, true}
+use Rattle.lexopt_declaration.specs.declared.declaration.Beside.TheVariants.{Nothing}
 use Rattle.lexopt_declaration.specs.declared.declaration.Kind.TheVariants as kind
 use Rattle.lexopt_declaration.specs.declared.declaration.Names.TheVariants.{Short}
 use Rattle.lexopt_declaration.specs.declared.declaration.Words.TheVariants.{Directories, Files, Listed}
@@ -20,12 +21,15 @@ returns c =
           names = Short c.args.character;
           kind = kind.Flag Verbose;
           help = c.args.help;
+          details = record { ref_ptr = _; now = [] };
           heading = record { ref_ptr = _; now = [] };
           hidden = false;
           required = false;
+          default = None;
           words = Files;
           hides_list = false;
           aliases = record { ref_ptr = _; now = [] };
+          beside = Nothing;
         } ∷ [];
       };
       positionals = record {

@@ -1,5 +1,4 @@
-use Rattle.std.proofs.Common.{refl, subst}
-use Rattle.lexopt_commands.specs.Lines.{IsLineRead}
+use Rattle.std.proofs.Common.{refl}
 use Rattle.lexopt_commands.proofs.commands.Commands.answer_after.Goals as goal
 
 pub returns-in_ok-path-in-Command : goal.returns-in_ok-path-in-Command
@@ -7,7 +6,7 @@ returns-in_ok-path-in-Command g c = record {
   parsed = c.in-Command.parsed;
   name = c.in-Command.name;
   own = c.in-Command.own;
-  read = subst (IsLineRead c.args.self.now c.args.words.items) c.in-Command.is c.in_ok-parsed.ensures.line;
+  read = rw c.in-Command.is at c.in_ok-parsed.ensures.line;
   by_path = c.in_ok-path-in-Command.ensures;
   general = c.in_ok-general-in-Command.ensures;
   line = refl;

@@ -1,8 +1,5 @@
-use Rattle.std.proofs.Common.{◌∙◌, List, ap, map, subst, sym}
-use Rattle.lexopt_commands.specs.declared.command.Command.{Command}
-use Rattle.lexopt_commands.specs.Meanings.{meaning}
-use Rattle.lexopt_commands.specs.Mistakes.{IsHint, IsMistake, unknown_command, missing_command}
-use Rattle.lexopt_commands.specs.Names.{names_of}
+use Rattle.lexopt_commands.proofs.Common.{◌∙◌, ap, sym, meaning, names_of}
+use Rattle.lexopt_commands.specs.Mistakes.{unknown_command, missing_command}
 use Rattle.lexopt_commands.specs.Views.{meaning_view}
 use Rattle.lexopt_commands.proofs.commands.Commands.end.Goals as goal
 
@@ -15,17 +12,17 @@ returns-in_ok-names_of-in-Missing g c =
       program = c.refuse.ensures.program;
       help = c.refuse.ensures.help;
       before = ap (λ v. v.items) c.refuse.ensures.before;
-      told = subst (IsMistake c.args.self.now.commands.now words) (sym c.refuse.ensures.mistake) (missing_command c.in_ok-names_of-in-Missing.field-0 means named);
+      told = rw c.refuse.ensures.mistake (missing_command c.in_ok-names_of-in-Missing.field-0 means named);
     }
 
 pub returns-in_ok-hints-in-Unknown : goal.returns-in_ok-hints-in-Unknown
 returns-in_ok-hints-in-Unknown g c =
     let words = c.args.words.items in
     let means = ap (λ cs. meaning cs words) (sym c.commands.ensures.same) ∙ sym c.in_ok-name.ensures ∙ ap meaning_view c.in-Unknown.is in
-    let hinted = subst (λ (cs : List (Command _)). IsHint cs c.in-Unknown.word (map (λ hint. hint.now) c.in_ok-hints-in-Unknown.hints.items)) c.commands-in-Unknown.ensures.same c.in_ok-hints-in-Unknown.ensures in
+    let hinted = rw c.commands-in-Unknown.ensures.same at c.in_ok-hints-in-Unknown.ensures in
     record {
       program = c.refuse-in-Unknown.ensures.program;
       help = c.refuse-in-Unknown.ensures.help;
       before = ap (λ v. v.items) c.refuse-in-Unknown.ensures.before;
-      told = subst (IsMistake c.args.self.now.commands.now words) (sym c.refuse-in-Unknown.ensures.mistake) (unknown_command c.in-Unknown.word c.in-Unknown.rest c.in_ok-hints-in-Unknown.hints means hinted);
+      told = rw c.refuse-in-Unknown.ensures.mistake (unknown_command c.in-Unknown.word c.in-Unknown.rest c.in_ok-hints-in-Unknown.hints means hinted);
     }

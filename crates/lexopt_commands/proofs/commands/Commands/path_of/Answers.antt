@@ -1,7 +1,4 @@
-use Rattle.std.proofs.Common.{◌++◌, ◌∷◌, ◌∙◌, ap}
-use Rattle.std.proofs.lemmas.Result.{IfOk-weaker}
-use Rattle.lexopt_options_spec.specs.Help.{blank}
-use Rattle.lexopt_options.specs.Declarations.{declaration_of}
+use Rattle.lexopt_commands.proofs.Common.{◌++◌, ◌∷◌, ◌∙◌, ap, IfOk-weaker, blank, declaration_of}
 use Rattle.lexopt_commands.proofs.commands.Commands.path_of.Goals as goal
 
 pub returns : goal.returns

@@ -1,7 +1,6 @@
-use Rattle.std.proofs.Common.{◌≡◌, ◌∙◌, ap, refl, subst, sym}
+use Rattle.lexopt_commands.proofs.Common.{◌≡◌, ◌∙◌, ap, refl, subst, sym, IsPlaced, in_command, place}
 use Rattle.lexopt_options.specs.declared.request.Request.TheVariants as request
 use Rattle.lexopt_commands.specs.declared.answer.Step.TheVariants as step
-use Rattle.lexopt_commands.specs.Completions.{IsPlaced, in_command, place}
 use Rattle.lexopt_commands.specs.Views.{place_view}
 use Rattle.lexopt_commands.proofs.commands.Commands.placed_step.Goals as goal
 

@@ -1,8 +1,7 @@
-use Rattle.std.proofs.Common.{◌∙◌, ap, inr, refl, subst, sym}
+use Rattle.lexopt_commands.proofs.Common.{◌∙◌, ap, inr, refl, subst, sym, IsRestRead}
 use Rattle.std.proofs.lemmas.Bool.{eqb-true}
 use Rattle.lexopt_declaration.specs.Lookups.{help_names}
 use Rattle.lexopt_options.specs.declared.refused.Line.TheVariants as line
-use Rattle.lexopt_options.specs.RestLines.{IsRestRead}
 use Rattle.lexopt_options.specs.RestStarts.{start_view}
 use Rattle.lexopt_options.proofs.RestRead.{no_length}
 use Rattle.lexopt_commands.proofs.wrapper.Wrapper.answer_rest.Goals as goal

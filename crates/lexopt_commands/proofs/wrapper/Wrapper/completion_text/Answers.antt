@@ -1,5 +1,4 @@
-use Rattle.std.proofs.Common.{◌∙◌, ap, length, string_bytes}
-use Rattle.std.proofs.lemmas.Result.{IfOk-weaker}
+use Rattle.lexopt_commands.proofs.Common.{◌∙◌, ap, length, string_bytes, IfOk-weaker}
 use Rattle.lexopt_commands.specs.Wrappers.{before_rest, in_rest, rest_line}
 use Rattle.lexopt_commands.proofs.wrapper.Wrapper.completion_text.Goals as goal
 

@@ -1,6 +1,4 @@
-use Rattle.std.proofs.Common.{◌∙◌, sym}
-use Rattle.std.proofs.lemmas.Bool.{false≢true}
-use Rattle.lexopt_options.specs.Declarations.{declaration_of}
+use Rattle.lexopt_options.proofs.Common.{◌∙◌, sym, false≢true, declaration_of}
 use Rattle.lexopt_options.proofs.Beginnings.{follows_by, no_rest_follows}
 use Rattle.lexopt_options.proofs.options.Options.begins_surplus.Goals as goal
 

@@ -1,8 +1,6 @@
-use Rattle.std.proofs.Common.{option_map, subst, ◌∙◌}
-use Rattle.lexopt_options_spec.specs.Completion.{AreOwnersIn}
-use Rattle.lexopt_options.specs.Declarations.{declaration_of}
+use Rattle.lexopt_options.proofs.Common.{option_map, ◌∙◌, declaration_of}
 use Rattle.lexopt_options.specs.Roles.{place_view, words_of}
-use Rattle.lexopt_options.proofs.Completing.{values_given}
+use Rattle.lexopt_options.proofs.Completing.{values_are}
 use Rattle.lexopt_options.proofs.options.Options.complete_after.Goals as goal
 
 pub joined-requires : goal.joined-requires
@@ -18,11 +16,11 @@ returns g c = λ words front.
     let joined = c.in_ok-joined.ensures words (c.is_open.ensures d words front) in
     record {
       spellings = c.in_ok-spellings_for.ensures words front;
-      values = c.in_ok-values_for.ensures ∙ values_given c.args.self.now c.args.typed.now _ _ c.deref.result.now c.in_ok-arguments.arguments.items _ _ _ c.positionals.ensures.view c.deref.ensures.value (c.role-word.ensures before) joined.2;
+      values = (rw (c.positionals.ensures.view, c.deref.ensures.value) at c.in_ok-values_for.ensures) ∙ values_are c.args.self.now c.args.typed.now _ c.in_ok-arguments.arguments.items _ _ _ (c.role-word.ensures before) joined.2;
       role = option_map (place_view before) c.place-place.result;
       has_role = c.place-place.ensures words front;
       word = c.role-word.ensures before;
-      arguments = subst (λ words. AreOwnersIn d.positionals (option_map (place_view words) c.place-place.result) c.in_ok-arguments.arguments.items) c.words_of.ensures c.in_ok-arguments.ensures;
+      arguments = rw c.words_of.ensures at c.in_ok-arguments.ensures;
       with_value = joined.0;
       is_joined = joined.1;
       joined = joined.2;

@@ -1,5 +1,4 @@
-use Rattle.std.proofs.Common.{ap, refl}
-use Rattle.lexopt_spec.specs.UnreadLine.{UnreadLine}
+use Rattle.lexopt_options.proofs.Common.{ap, refl, UnreadLine}
 use Rattle.lexopt_options.proofs.options.Options.front.Goals as goal
 
 pub read_front-requires-clause-before : goal.read_front-requires-clause-before

@@ -1,9 +1,4 @@
-use Rattle.std.proofs.Common.{◌∙◌, Bool, ap, position, rules, subst, tests}
-use Rattle.std.proofs.lemmas.Iterator.{YieldsList-from_slice}
-use Rattle.std.proofs.lemmas.Iterator.Search.{position_from_yields_List}
-use Rattle.lexopt_declaration.specs.declared.declaration.Declared.{Declared}
-use Rattle.lexopt_declaration.specs.Lookups.{names_at}
-use Rattle.lexopt_options.specs.Declarations.{options_of}
+use Rattle.lexopt_options.proofs.Common.{◌∙◌, Bool, ap, position, rules, subst, tests, YieldsList-from_slice, position_from_yields_List, Declared, names_at, options_of}
 use Rattle.lexopt_options.specs.Usage.{ConvertsFor, is_maybe}
 use Rattle.lexopt_options.proofs.options.Options.parse_maybe.Goals as goal
 

@@ -1,6 +1,4 @@
-use Rattle.std.proofs.Common.{Bool, ap, ◌∙◌}
-use Rattle.lexopt_spec.specs.UnreadLine.{UnreadLine}
-use Rattle.lexopt_options.specs.Declarations.{declaration_of}
+use Rattle.lexopt_options.proofs.Common.{Bool, ap, ◌∙◌, UnreadLine, declaration_of}
 use Rattle.lexopt_options.proofs.options.Options.parser_of.Goals as goal
 
 pub returns : goal.returns

@@ -1,7 +1,0 @@
-use Rattle.std.proofs.Common.{◌≡◌, ◌++◌, map, take, filter, nat_eq, string_bytes}
-use Rattle.std.specs.List.{starts_with}
-use Rattle.lexopt_declaration.proofs.spellings.add_listed.Given as goal
-
-abbrev pub invariant-loop-value : goal.invariant-loop-value
-invariant-loop-value l =
-    map string_bytes l.found.items ≡ map string_bytes l.initial.found.items ++ filter (λ s. starts_with nat_eq s l.typed) (map (λ v. v.now) (take l.value-index l.values))
