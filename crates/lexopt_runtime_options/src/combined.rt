@@ -11,7 +11,7 @@ use std::convert::Infallible;
 /// A declaration with the options of several groups.
 ///
 /// The prover goes through all of a static in each function that names it, at a cost that grows
-/// with the square of its texts, and it stops at its step limit somewhere between 120 and 200
+/// with the square of its texts, and it stops at its step limit somewhere between 101 and 110
 /// options. So a program with more than a hundred declares them in groups of some thirty, each a
 /// static of its own. [`Combined::new`] puts the groups together, and [`Combined::declaration`]
 /// returns a declaration with all of their options.
