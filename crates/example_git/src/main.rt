@@ -1,12 +1,13 @@
-//! Prints what it has read of a line that looks like one of git: a general option, a command with
-//! revisions before the separator and paths after it, and words for a program of another name.
+//! Prints what it has read of a line that looks like one of git: a general option; a command with
+//! paths after the separator, or one that shares options with it; or words for another program.
 #![tactic(auto)]
 
 use lexopt_commands::{
     Call, Command, Commands, Rest, RestStart, Step, Wrapper, WrapperAnswer, columns,
     declare_commands, finish,
 };
-use lexopt_options::{Answer, Declaration, Mistake, Names, Options, declare};
+use lexopt_options::{Answer, Declaration, Group, Mistake, Names, Options, declare, declare_group};
+use lexopt_runtime_options::{Combined, split_shared};
 use std::convert::Infallible;
 use std::io;
 use std::process::ExitCode;
@@ -14,24 +15,17 @@ use std::process::ExitCode;
 #[derive(Clone, Copy)]
 enum Task {
     Log,
-    Status,
+    Show,
 }
 
 #[derive(Debug, Clone, Copy)]
-enum LogFlag {
+enum Format {
     Patch,
     Oneline,
 }
 
-#[derive(Debug, Clone, Copy)]
-enum LogValue {
-    MaxCount,
-    Author,
-}
-
 static GENERAL: Declaration<'static, Infallible, ()> = declare! {
     program: "example_git",
-    about: "Prints what it has read.",
     options: [
         value((), Names::Short('C'), "DIR", "where the repository is").directories(),
         help(Names::Both('h', "help")),
@@ -41,56 +35,66 @@ static GENERAL: Declaration<'static, Infallible, ()> = declare! {
 
 static COMMANDS: &[Command<'static, Task>] = declare_commands![
     command(Task::Log, "log", "show commits"),
-    command(Task::Status, "status", "show what is not committed"),
+    command(Task::Show, "show", "show anything by its name"),
     help("help"),
 ];
 
-static LOG: Declaration<'static, LogFlag, LogValue, ()> = declare! {
+static LOG: Declaration<'static, Infallible, (), ()> = declare! {
     program: "log",
     options: [
-        value(LogValue::MaxCount, Names::Both('n', "max-count"), "NUMBER", "at most this many")
-            .text()
-            .heading("Which commits"),
-        value(LogValue::Author, Names::Long("author"), "NAME", "those of this author").text(),
-        flag(LogFlag::Patch, Names::Both('p', "patch"), "what each has changed")
-            .alias(Names::Short('u'))
-            .heading("What is shown of them"),
-        flag(LogFlag::Oneline, Names::Long("oneline"), "each on a line of its own"),
-        help(Names::Both('h', "help")).heading("Other options"),
+        value((), Names::Both('n', "max-count"), "NUMBER", "at most this many").text(),
+        help(Names::Both('h', "help")),
     ],
     positionals: [any_number((), "REVISION", "the commits that are reachable from this").text()],
 };
 
-const PATHS: Rest<'static> = Rest {
-    start: RestStart::Separated,
-    placeholder: "PATH",
-    help: "only commits that have changed one of these",
-    required: false,
+static SHOW: Declaration<'static, Infallible, Infallible, ()> = declare! {
+    program: "show",
+    options: [help(Names::Both('h', "help"))],
+    positionals: [at_least_once((), "OBJECT").text()],
 };
 
-static STATUS: Declaration<'static, Infallible> = declare! {
-    program: "status",
-    options: [help(Names::Both('h', "help"))],
+static FORMAT: Group<'static, Format> = declare_group! {
+    options: [
+        flag(Format::Patch, Names::Both('p', "patch"), "what each has changed")
+            .alias(Names::Short('u'))
+            .heading("What is shown of commits"),
+        flag(Format::Oneline, Names::Long("oneline"), "each on a line of its own"),
+    ],
 };
 
 fn log(rt: &HostRuntime, path: &str, call: Call<Infallible, ()>) -> io::Result<ExitCode> {
-    let wrapper = Wrapper::new(Options::new(&LOG).with_program(path), PATHS);
+    let combined = Combined::with_shared(rt.alloc(), &LOG, FORMAT)?;
+    let declaration = combined.declaration();
+    let paths = Rest {
+        start: RestStart::Separated,
+        placeholder: "PATH",
+        help: "only commits that have changed one of these",
+        required: false,
+    };
+    let wrapper = Wrapper::new(Options::new(&declaration).with_program(path), paths);
     let (general, answer) = call.answer_wrapped(rt.alloc(), &wrapper, columns(rt))?;
     match answer {
-        WrapperAnswer::Parsed(line, paths) => println!(rt;
-            "{path}: {general:?} {line:?} {paths:?}"
-        )?,
+        WrapperAnswer::Parsed(line, paths) => {
+            let (line, format) = split_shared(rt.alloc(), line)?;
+            println!(rt; "{path}: {general:?} {line:?} {format:?} {paths:?}")?;
+        }
         WrapperAnswer::Text(text) => rt.print(text)?,
         WrapperAnswer::Refused(why) => return Ok(why.print(rt)),
     }
     Ok(ExitCode::SUCCESS)
 }
 
-fn status(rt: &HostRuntime, path: &str, call: Call<Infallible, ()>) -> io::Result<ExitCode> {
-    let options = Options::new(&STATUS).with_program(path);
+fn show(rt: &HostRuntime, path: &str, call: Call<Infallible, ()>) -> io::Result<ExitCode> {
+    let combined = Combined::with_shared(rt.alloc(), &SHOW, FORMAT)?;
+    let declaration = combined.declaration();
+    let options = Options::new(&declaration).with_program(path);
     let (general, answer) = call.answer(rt.alloc(), &options, columns(rt))?;
     match answer {
-        Answer::Parsed(_) => println!(rt; "{path}: {general:?}")?,
+        Answer::Parsed(line) => {
+            let (line, format) = split_shared(rt.alloc(), line)?;
+            println!(rt; "{path}: {general:?} {line:?} {format:?}")?;
+        }
         Answer::Text(text) => rt.print(text)?,
         Answer::Refused(why) => return Ok(why.print(rt)),
     }
@@ -100,7 +104,7 @@ fn status(rt: &HostRuntime, path: &str, call: Call<Infallible, ()>) -> io::Resul
 fn run(rt: &HostRuntime) -> io::Result<ExitCode> {
     match Commands::new(Options::new(&GENERAL), COMMANDS).from_env(rt)? {
         Step::Command(Task::Log, path, call) => return log(rt, &path, call),
-        Step::Command(Task::Status, path, call) => return status(rt, &path, call),
+        Step::Command(Task::Show, path, call) => return show(rt, &path, call),
         Step::Text(text) => rt.print(text)?,
         Step::Refused(why) => match &why.mistake {
             Mistake::UnknownCommand { word, rest, .. } => println!(rt; "other: {word:?} {rest:?}")?,

@@ -1,9 +1,7 @@
 -- The loop that looks for the first command that cannot be declared.
 use Rattle.lexopt_commands.proofs.Common.{◌≡◌, ◌==◌, Bool, if◌then◌else◌, ℕ, List, take, Option, Some, None, ap, sym, subst, ◌∙◌, list_any, Command, fault, first_fault, name_fault, names_of, or_else}
+use Rattle.lexopt_commands.proofs.Common.{pointwise, list_any-map, Reason}
 use Rattle.std.proofs.Math.ListN.{drop}
-use Rattle.std.specs.Cmp.Lexicographic.{pointwise}
-use Rattle.lexopt_line_spec.proofs.Lists.{list_any-map}
-use Rattle.lexopt_commands.specs.declared.command.Reason.{Reason}
 use Rattle.lexopt_commands.specs.declared.command.Reason.TheVariants.{SameName}
 
 -- what is found from this index on

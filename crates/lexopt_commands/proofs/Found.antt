@@ -1,15 +1,14 @@
 -- Each command is found by its name.
-use Rattle.lexopt_commands.proofs.Common.{append-nil, ◌≡◌, ◌==◌, ◌+◌, nat_lt, not, suc, zero, ℕ, Bool, true, false, if◌then◌else◌, List, [], ◌∷◌, ◌++◌, length, take, position, Option, Some, None}
-use Rattle.lexopt_commands.proofs.Common.{refl, ap, sym, subst, ◌∙◌, append_assoc, arith, is_none, list_any, position_or_len, slice_get, Command, can_be_declared, fault, first_fault, name_fault}
-use Rattle.lexopt_commands.proofs.Common.{names_of, or_else, with_fault, command_at, command_of}
+use Rattle.lexopt_commands.proofs.Common.{append-nil, ◌≡◌, ◌==◌, suc, zero, ℕ, Bool, true, false, if◌then◌else◌, List, [], ◌∷◌, ◌++◌, take, position, Option, Some, None, refl, ap, sym, subst, ◌∙◌}
+use Rattle.lexopt_commands.proofs.Common.{append_assoc, arith, is_none, list_any, slice_get, Command, can_be_declared, fault, first_fault, name_fault, names_of, or_else, with_fault, command_at}
+use Rattle.lexopt_commands.proofs.Common.{command_of, pointwise, list_any-map, Reason}
+use Rattle.std.proofs.Common.{get_or-take, length-take-le}
+use Rattle.std.proofs.lemmas.List.Folds.{list_any_at}
 use Rattle.std.specs.Option.{option_map}
-use Rattle.std.specs.Cmp.Lexicographic.{pointwise}
-use Rattle.std.proofs.lemmas.Bool.{lt-ltb, or_parts}
+use Rattle.std.proofs.lemmas.Bool.{false_from_ne_true, true≢false}
 use Rattle.std.proofs.lemmas.List.{take-map}
-use Rattle.std.proofs.lemmas.Option.{slice_get-map, slice_get_within}
-use Rattle.lexopt_line_spec.proofs.Lists.{list_any-map}
-use Rattle.lexopt_options_spec.proofs.Tables.{pointwise_refl}
-use Rattle.lexopt_commands.specs.declared.command.Reason.{Reason}
+use Rattle.std.proofs.lemmas.Option.{get_or_from_slice_get, slice_get-map, slice_get_within}
+use Rattle.lexopt_options_spec.proofs.Tables.{first_at, pointwise_refl}
 
 -- ---- a list without a fault has none at any place
 
@@ -37,19 +36,13 @@ not_among (Some other) among why none = absurd (let e : Some other ≡ None = no
 
 -- ---- the first place
 
-first_at : {X : Type 0} (p : X → Bool) (xs : List X) (i : ℕ) (x : X) → slice_get xs i ≡ Some x → p x ≡ true → list_any p (take i xs) ≡ false → position_or_len p xs ≡ i
-first_at p [] i x at is none = absurd (let e : None ≡ Some x = at in cc)
-first_at p (y ∷ ys) zero x at is none =
-    let same : y ≡ x = let e : Some y ≡ Some x = at in cc in
-    ap (λ b. if not b then 1 + position_or_len p ys else 0) (ap p same ∙ is)
-first_at p (y ∷ ys) (suc i) x at is none =
-    let parts = or_parts (p y) (list_any p (take i ys)) none in
-    ap (λ b. if not b then 1 + position_or_len p ys else 0) parts.0 ∙ ap (λ n. 1 + n) (first_at p ys i x at is parts.1) ∙ omega arith
-
 place_at : {X : Type 0} (p : X → Bool) (xs : List X) (i : ℕ) (x : X) → slice_get xs i ≡ Some x → p x ≡ true → list_any p (take i xs) ≡ false → position p xs ≡ Some i
 place_at p xs i x at is none =
-    ap (λ n. if nat_lt n (length xs) then Some n else None) (first_at p xs i x at is none)
-    ∙ ap (λ b. if b then Some i else None) (lt-ltb _ _ (slice_get_within xs i x at))
+    let within = slice_get_within xs i x at in
+    let all = length-take-le i xs (omega (arith, within)) in
+    first_at p xs i x within
+    (λ k less. false_from_ne_true _ (λ there. true≢false (sym (list_any_at p (take i xs) k x (omega (arith, all, less)) (ap p (get_or-take i xs k x less) ∙ there)) ∙ none)))
+    (ap p (get_or_from_slice_get xs i x x at) ∙ is)
 
 pub each_found : {C : Type 0} (commands : List (Command C)) → can_be_declared (names_of commands) ≡ true → (i : ℕ) (c : Command C) → slice_get commands i ≡ Some c → command_of commands c.name.now ≡ Some c
 each_found commands sound i c at =

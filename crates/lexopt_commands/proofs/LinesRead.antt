@@ -1,8 +1,6 @@
 -- The line of given general options and words.
 use Rattle.lexopt_commands.proofs.Common.{◌≡◌, ℕ, List, Option, Some, None, subst, sym, ◌∙◌, ◌∷◌, ap, declaration_of, options_of, Command, command, help, meaning, missing, named, named_by, unknown}
-use Rattle.lexopt_commands.proofs.Common.{slice_get}
-use Rattle.std.specs.declared.convert.Infallible.{Infallible}
-use Rattle.lexopt_options_spec.specs.Asking.{first_asked}
+use Rattle.lexopt_commands.proofs.Common.{slice_get, Infallible, first_asked}
 use Rattle.lexopt_options_spec.specs.Declaration as spec
 use Rattle.lexopt_options_spec.specs.Legal as legal
 use Rattle.lexopt_options.specs.declared.mistake.Mistake.{Mistake}

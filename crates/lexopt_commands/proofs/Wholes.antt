@@ -1,10 +1,8 @@
 -- The declaration of a program whose line has a rest, with the rest as its last positionals.
-use Rattle.lexopt_commands.proofs.Common.{◌≡◌, ◌++◌, ◌∷◌, ◌∙◌, [], ℕ, List, ap, codes, map, false, refl, true, declaration_of, positionals_of}
+use Rattle.lexopt_commands.proofs.Common.{◌≡◌, ◌++◌, ◌∷◌, ◌∙◌, [], ℕ, List, ap, codes, map, false, refl, true, declaration_of, positionals_of, Infallible, positional_view}
 use Rattle.std.specs.Borrow.{Bor}
-use Rattle.std.specs.declared.convert.Infallible.{Infallible}
 use Rattle.lexopt_options_spec.specs.Declaration as spec
 use Rattle.lexopt_declaration.specs.declared.declaration.Positional.{Positional}
-use Rattle.lexopt_declaration.specs.Models.{positional_view}
 use Rattle.lexopt_options.specs.declared.options.Options.{Options}
 use Rattle.lexopt_options.specs.declared.rest.RestStart.TheVariants.{Surplus}
 use Rattle.lexopt_commands.specs.Help.{with_command}

@@ -1,12 +1,10 @@
 -- How many positionals there are.
 use Rattle.lexopt_declaration.proofs.Common.{◌≡◌, ℕ, suc, Bool, true, false, List, [], ◌∷◌, map, filter, length, Some, None, if◌then◌else◌, refl, sym, ap, ◌∙◌, ◌≢◌, ◌<◌, ◌≤◌, ◌+◌, ◌-◌, drop, get_or}
-use Rattle.lexopt_declaration.proofs.Common.{add-one, drop-cons, arith, list_any, length-map, has_to_occur, may_repeat, count_view, positional_view}
+use Rattle.lexopt_declaration.proofs.Common.{add-one, drop-cons, arith, list_any, length-map, has_to_occur, may_repeat, count_view, positional_view, list_any-map, required_placeholder}
 use Rattle.std.proofs.Math.ListN.{drop_of_length-le}
-use Rattle.lexopt_line_spec.proofs.Lists.{list_any-map}
 use Rattle.lexopt_options_spec.specs.Declaration as spec
 use Rattle.lexopt_options_spec.specs.Legal.{most}
 use Rattle.lexopt_options_spec.specs.Places.{least, required}
-use Rattle.lexopt_options_spec.specs.Stops.{required_placeholder}
 use Rattle.lexopt_declaration.specs.declared.declaration.Positional.{Positional}
 use Rattle.lexopt_declaration.proofs.Hinted.{filter_viewed}
 

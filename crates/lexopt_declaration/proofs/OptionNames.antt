@@ -1,20 +1,17 @@
 -- An option by its own names and its further ones.
 use Rattle.lexopt_declaration.proofs.Common.{◌≡◌, ◌<◌, ◌≤◌, ◌+◌, ℕ, take, Bool, true, false, ◌||◌, List, [], ◌∷◌, ◌++◌, map, length, get_or, refl, sym, ap, subst, ◌∙◌, flat_map, list_any}
 use Rattle.lexopt_declaration.proofs.Common.{option_to_list, false≢true, flat_map_more, take_all, take_more, has_name, is_name, is_one_of, AreText, IsText, Declared, AreAllText, long_name, names_list}
-use Rattle.lexopt_declaration.proofs.Common.{option_view, short_name}
+use Rattle.lexopt_declaration.proofs.Common.{option_view, short_name, list_any-append, either}
 use Rattle.std.proofs.Math.Bool.{or-false}
-use Rattle.std.proofs.lemmas.List.Folds.{list_any-append}
 use Rattle.lexopt_line_spec.specs.Table.{Name, short, long}
 use Rattle.lexopt_options_spec.specs.Declaration as spec
 use Rattle.lexopt_options_spec.proofs.Tables.{name_is}
-use Rattle.lexopt_options_spec.proofs.Sound.{either}
 use Rattle.lexopt_declaration.specs.declared.declaration.Names.{Names}
 use Rattle.lexopt_declaration.specs.declared.declaration.Names.TheVariants.{Short, Long, Both}
 
 own_names : (n : Names) → map short (option_to_list (short_name n)) ++ map long (option_to_list (long_name n)) ≡ names_list n
 own_names (Short c) = refl
-own_names (Long name) = refl
-own_names (Both c name) = refl
+own_names n = refl
 
 pub all_names_are : {F V M S : Type 0} (o : Declared F V M S) → spec.all_names (option_view o) ≡ names_list o.names ++ flat_map names_list o.aliases.now
 all_names_are o = ap (λ l. l ++ flat_map names_list o.aliases.now) (own_names o.names)
@@ -65,3 +62,5 @@ pub texts_of : {F V M S : Type 0} (o : Declared F V M S) (i : ℕ) → length o.
 texts_of o i all own others = λ name has. one_text (spec.all_names (option_view o)) name
     (subst AreAllText (sym (all_names_are o)) (all_more (names_list o.names) (flat_map names_list o.aliases.now) own (subst (λ l. AreAllText (flat_map names_list l)) (take_all i o.aliases.now all) others)))
     (sym (or-false (has_name name (option_view o))) ∙ has)
+
+pub ruleset all_texts = (texts_more, texts_of)

@@ -1,11 +1,8 @@
 -- The names and the spellings of one more option.
 use Rattle.lexopt_declaration.proofs.Common.{◌≡◌, ◌<◌, ◌+◌, ◌++◌, ◌∷◌, [], ℕ, Bool, List, get_or, if◌then◌else◌, length, map, take, ap, sym, subst, ◌∙◌, list_any, map_more, has_name, AreText, IsText}
-use Rattle.lexopt_declaration.proofs.Common.{Spelled, is_offered, offered, Declared, option_view, filter, flat_map_more, map-append, spellings}
-use Rattle.std.proofs.lemmas.List.Elements.{filter-append}
+use Rattle.lexopt_declaration.proofs.Common.{Spelled, is_offered, offered, Declared, option_view, filter, flat_map_more, map-append, spellings, filter-append, list_any-append, either}
 use Rattle.lexopt_options_spec.specs.Completion.{spelled_by}
-use Rattle.std.proofs.lemmas.List.Folds.{list_any-append}
 use Rattle.lexopt_options_spec.specs.Declaration as spec
-use Rattle.lexopt_options_spec.proofs.Sound.{either}
 
 last_text : (l : List spec.Declared) (o : spec.Declared) → AreText l → AreText (o ∷ []) → AreText (l ++ o ∷ [])
 last_text l o before last = λ name has.

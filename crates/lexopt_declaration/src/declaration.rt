@@ -229,12 +229,11 @@ pub struct Declared<'a, F, V = Infallible, M = Infallible, S = Infallible> {
     /// Its help text. The help wraps it at spaces, of which several count as one. Shells show it as
     /// it is, with a space for each control character of ASCII.
     pub help: &'a str,
-    /// A longer help text, which the full help shows in place of `help`. If it is empty, the full
-    /// help shows `help` too.
-    pub details: &'a str,
-    /// The heading in the help for this option and those after it, up to the next that has one. It
-    /// is left out with an option that has no entry. It is empty if the option has none.
-    pub heading: &'a str,
+    /// A longer help text, if there is one, which the full help shows in place of `help`.
+    pub details: Option<&'a str>,
+    /// The heading in the help, if there is one, for this option and those after it, up to the next
+    /// that has one. It is left out with an option that has no entry.
+    pub heading: Option<&'a str>,
     /// Whether the help and its usage line leave it out, shells offer its names only where they are
     /// typed whole, and no hint has its long name. Lines may have it all the same.
     pub hidden: bool,
@@ -244,6 +243,9 @@ pub struct Declared<'a, F, V = Infallible, M = Infallible, S = Infallible> {
     /// value that is not required may have a default, which has to be a value that it accepts. The
     /// help shows it.
     pub default: Option<&'a str>,
+    /// The name of the exclusive group that it is in, if it is in one: a legal line has at most one
+    /// of the options of a group. A required option cannot be in one.
+    pub exclusive: Option<&'a str>,
     /// What its values may be. The help shows a list, even that of a flag, which has no values.
     pub words: Words<'a>,
     /// Whether the help leaves out the list.
@@ -273,6 +275,7 @@ impl<F: Copy, V: Copy, M: Copy, S: Copy> Clone for Declared<'_, F, V, M, S> {
             hidden: self.hidden,
             required: self.required,
             default: self.default,
+            exclusive: self.exclusive,
             words: self.words,
             hides_list: self.hides_list,
             aliases: self.aliases,
@@ -430,6 +433,7 @@ fn names_are_text(names: Names<'_>)
 }
 
 // States that the names of an option are text.
+#[tactic(auto, using(crate::proofs::OptionNames::all_texts))]
 fn option_is_text<F, V, M, S>(option: &Declared<'_, F, V, M, S>)
     ensures { AreText (option_view option.now ∷ []) }
 {

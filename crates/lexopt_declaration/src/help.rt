@@ -1,9 +1,11 @@
 //! The help of declared options, in the form that the GNU Coding Standards give `--help`, and laid
 //! out like that of `ls`. The file of this name in `lexopt_commands` adds the commands.
 ghost use Rattle.std.specs.Prelude.{◌≡◌, ◌≤◌, ◌+◌, ◌-◌, ◌∷◌, ◌++◌, ◌&&◌, ◌==◌, [], List, ℕ, IfOk, OnOk};
-ghost use Rattle.std.specs.Prelude.{if◌then◌else◌, codes, length, map, nat_lt, not, option_map};
+ghost use Rattle.std.specs.Prelude.{if◌then◌else◌, codes, is_none, length, map, nat_lt, not, option_map};
 ghost use Rattle.std.specs.Prelude.{string_bytes};
 ghost use Rattle.std.specs.List.{AllZip, concat, flat_map, list_any, starts_with};
+ghost use Rattle.std.specs.Option.{is_some};
+ghost use Rattle.lexopt_options_spec.specs.Legal as legal;
 ghost use Rattle.lexopt_options_spec.specs.Help as spec;
 ghost use Rattle.lexopt_options_spec.specs.Help.{IsEntry, IsHelp, IsOption, IsParagraph, IsUsage};
 ghost use Rattle.lexopt_options_spec.specs.Help.{IsUsageLine, Wraps};
@@ -15,7 +17,7 @@ ghost use Rattle.lexopt_declaration.specs.Declarations.{declaration_view};
 
 use crate::declaration::{Arity, Beside, Count, Declaration, Declared, Names, Positional, Words};
 use crate::listed::Listed;
-use crate::lookup::{has_negation, has_short};
+use crate::lookup::{are_same, has_negation, has_short};
 use crate::message::Escaped;
 use bstr::ByteSlice;
 use std::alloc::{AllocError, Global};
@@ -324,24 +326,25 @@ pub fn push_described(
     push_labelled(out, label, words.as_slice(), width)
 }
 
-// Adds a heading on a line of its own, after an empty line. Adds nothing if it is empty.
-fn push_heading(out: &mut String, heading: &str) -> Result<(), AllocError>
-    ensures { IfOk result (λ _.
-        string_bytes out.new ≡ string_bytes out.old ++ spec.heading_lines heading.now) }
+// Adds a heading, if there is one, on a line of its own after an empty line.
+fn push_heading(out: &mut String, heading: Option<&str>) -> Result<(), AllocError>
+    ensures { IfOk result (λ _. string_bytes out.new ≡ string_bytes out.old
+        ++ spec.heading_lines (option_map (λ text. text.now) heading.entry)) }
 {
-    if heading.is_empty() {
-        return Ok(());
+    match heading {
+        Some(heading) => write!(out, "\n{heading}:\n"),
+        None => Ok(()),
     }
-    write!(out, "\n{heading}:\n")
 }
 
 // The help text of an option: the longer one, unless there is none or the help is brief.
-fn chosen<'a>(detail: Detail, help: &'a str, details: &'a str) -> &'a str
-    ensures { result.now ≡ spec.chosen (detail_view detail) help.now details.now }
+fn chosen<'a>(detail: Detail, help: &'a str, details: Option<&'a str>) -> &'a str
+    ensures { result.now
+        ≡ spec.chosen (detail_view detail) help.now (option_map (λ text. text.now) details.entry) }
 {
     match detail {
-        Detail::Full if !details.is_empty() => details,
-        Detail::Full | Detail::Brief => help,
+        Detail::Full => details.unwrap_or(help),
+        Detail::Brief => help,
     }
 }
 
@@ -608,21 +611,23 @@ pub fn push_epilogue(
     Ok(())
 }
 
-// Whether an option is neither hidden nor required.
+// Whether an option is neither hidden nor required, and no other excludes it.
 fn is_voluntary<F, V, M, S>(option: &Declared<'_, F, V, M, S>) -> bool
-    ensures { result ≡ (not option.now.hidden && not option.now.required) }
+    ensures { result ≡ (not option.now.hidden
+        && (not option.now.required && is_none option.now.exclusive)) }
 {
-    !option.hidden && !option.required
+    !option.hidden && (!option.required && option.exclusive.is_none())
 }
 
-// Whether one of these options is neither hidden nor required.
+// Whether there is such an option among these.
 fn any_voluntary<F, V, M, S>(options: &[Declared<'_, F, V, M, S>]) -> bool
-    ensures { result ≡ list_any (λ o. not o.hidden && not o.required) options.now }
+    ensures { result
+        ≡ list_any (λ o. not o.hidden && (not o.required && is_none o.exclusive)) options.now }
 {
     options.iter().any(|option| is_voluntary(option))
 }
 
-// Adds `[OPTION]...` to the words of the usage line, if an option is neither hidden nor required.
+// Adds `[OPTION]...` to the words of the usage line, if there is such an option.
 fn add_options_mark<F, V, M, S>(
     alloc: Global,
     marks: &mut Vec<String>,
@@ -667,6 +672,87 @@ fn option_mark<F, V, M, S>(
     let mut mark = String::new(alloc);
     push_mark(&mut mark, option.names, option.kind.arity())?;
     Ok(mark)
+}
+
+// Whether an option is not hidden, and is in this exclusive group.
+fn has_text<F, V, M, S>(option: &Declared<'_, F, V, M, S>, text: Option<&str>) -> bool
+    ensures { result ≡ (not option.now.hidden && legal.are_same
+        (option_map (λ own. own.now) text.entry) (option_map (λ own. own.now) option.now.exclusive)) }
+{
+    !option.hidden && are_same(text, option.exclusive)
+}
+
+// Whether there is such an option among these.
+fn any_has_text<F, V, M, S>(options: &[Declared<'_, F, V, M, S>], text: Option<&str>) -> bool
+    ensures { result ≡ list_any (λ o. not o.hidden && legal.are_same
+        (option_map (λ own. own.now) text.entry) (option_map (λ own. own.now) o.exclusive)) options.now }
+{
+    options.iter().any(|option| has_text(option, text))
+}
+
+// Adds each such option of these to an option that it excludes, as the usage line has them.
+fn push_others<F, V, M, S>(
+    mark: &mut String,
+    options: &[Declared<'_, F, V, M, S>],
+    text: Option<&str>,
+) -> Result<(), AllocError>
+    ensures { IfOk result (λ _. string_bytes mark.new ≡ string_bytes mark.old
+        ++ flat_map (λ o. codes " | " ++ spec.option_mark o)
+        (spec.sharing (option_map (λ own. own.now) text.entry)
+        (spec.visible (map option_view options.now)))) }
+{
+    for option in options {
+        if has_text(option, text) {
+            mark.push_str(" | ")?;
+            push_mark(mark, option.names, option.kind.arity())?;
+        }
+    }
+    Ok(())
+}
+
+// An option and those of these that it excludes, as the usage line has them: `[--json | --xml]`.
+fn choice_mark<F, V, M, S>(
+    alloc: Global,
+    option: &Declared<'_, F, V, M, S>,
+    later: &[Declared<'_, F, V, M, S>],
+) -> Result<String, AllocError>
+    ensures { IfOk result (λ mark. string_bytes mark ≡ spec.choice_mark (option_view option.now)
+        (spec.sharing (option_view option.now).exclusive (spec.visible (map option_view later.now)))) }
+{
+    let mut mark = String::from_str(alloc, "[")?;
+    push_mark(&mut mark, option.names, option.kind.arity())?;
+    push_others(&mut mark, later, option.exclusive)?;
+    mark.push_str("]")?;
+    Ok(mark)
+}
+
+// Whether an option is the first of its exclusive group that is not hidden, after these.
+fn is_first_choice<F, V, M, S>(
+    before: &[Declared<'_, F, V, M, S>],
+    option: &Declared<'_, F, V, M, S>,
+) -> bool
+    ensures { let text = option_map (λ own. own.now) option.now.exclusive in
+        result ≡ (not option.now.hidden && (is_some option.now.exclusive && not (list_any
+        (λ o. not o.hidden && legal.are_same text (option_map (λ own. own.now) o.exclusive)) before.now))) }
+{
+    !option.hidden && (option.exclusive.is_some() && !any_has_text(before, option.exclusive))
+}
+
+// Adds the options that exclude each other and are not hidden to the words of the usage line.
+fn add_choices<F, V, M, S>(
+    alloc: Global,
+    marks: &mut Vec<String>,
+    options: &[Declared<'_, F, V, M, S>],
+) -> Result<(), AllocError>
+    ensures { OnOk result (map string_bytes marks.new.items ≡ map string_bytes marks.old.items
+        ++ spec.choices [] (spec.visible (map option_view options.now))) }
+{
+    for (index, option) in options.iter().enumerate() {
+        if is_first_choice(&options[..index], option) {
+            marks.push(choice_mark(alloc, option, &options[index + 1..])?)?;
+        }
+    }
+    Ok(())
 }
 
 // Whether an option is required, and not hidden.
@@ -732,6 +818,7 @@ fn marks_of<F, V, P, M, S>(
 {
     let mut marks = Vec::new(alloc);
     add_options_mark(alloc, &mut marks, declaration.options)?;
+    add_choices(alloc, &mut marks, declaration.options)?;
     add_required_marks(alloc, &mut marks, declaration.options)?;
     add_positional_marks(alloc, &mut marks, declaration.positionals)?;
     Ok(marks)

@@ -1,9 +1,10 @@
 //! Finds an option by its name, and the names of the option at an index.
-ghost use Rattle.std.specs.Prelude.{◌≡◌, ◌==◌, map, position};
+ghost use Rattle.std.specs.Prelude.{◌≡◌, ◌==◌, map, option_map, position};
 ghost use Rattle.std.specs.Cmp.Lexicographic.{pointwise};
 ghost use Rattle.std.specs.List.{list_any};
 ghost use Rattle.lexopt_line_spec.specs.Table as table;
 ghost use Rattle.lexopt_options_spec.specs.Declaration.{has_name, index_of, is_one_of, negated};
+ghost use Rattle.lexopt_options_spec.specs.Legal.{are_same};
 ghost use Rattle.lexopt_declaration.specs.Models.{names_list, option_view};
 ghost use Rattle.lexopt_declaration.specs.Lookups.{has_alias, help_names, is_help, names_at};
 
@@ -139,4 +140,18 @@ pub fn help_names_of<'a, F, V, M, S>(options: &'a [Declared<'a, F, V, M, S>]) ->
     ensures { result ≡ help_names options.now }
 {
     names_of(options, place_of_help(options))
+}
+
+/// Returns whether both are the same text.
+pub fn are_same(text: Option<&str>, other: Option<&str>) -> bool
+    ensures { result ≡ are_same (option_map (λ own. own.now) text.entry)
+        (option_map (λ own. own.now) other.entry) }
+{
+    match text {
+        Some(text) => match other {
+            Some(other) => text == other,
+            None => false,
+        },
+        None => false,
+    }
 }

@@ -130,6 +130,7 @@ fn add_spellings<'a, F, V, M, S>(
 /// # Errors
 ///
 /// Returns `AllocError` if an allocation fails.
+#[tactic(auto, using(crate::proofs::Spelled::offered_more))]
 pub fn spellings_of<'a, F, V, M, S>(
     alloc: Global,
     options: &[Declared<'a, F, V, M, S>],

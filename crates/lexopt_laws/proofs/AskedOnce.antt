@@ -14,10 +14,10 @@ use Rattle.lexopt_options_spec.specs.Asking.{AskFor, all_but_last, asked_by, fir
 use Rattle.lexopt_options_spec.specs.Declaration.{Asked, Declaration, Declared, table}
 use Rattle.lexopt_options_spec.specs.Legal as legal
 use Rattle.lexopt_options_spec.specs.Legal.{Parsed, Means, parsed_item, positional_count, are_accepted}
-use Rattle.lexopt_options_spec.specs.Stops.{Mistake, StopsAt, unknown_option, unexpected_value, missing_value, invalid_value, unexpected_argument, invalid_argument, missing_argument, missing_option}
+use Rattle.lexopt_options_spec.specs.Stops.{Mistake, StopsAt, unknown_option, unexpected_value, missing_value, invalid_value, unexpected_argument, invalid_argument, missing_argument, missing_option, exclusive_options}
 use Rattle.lexopt_options_spec.proofs.Fronts.{front_later}
 use Rattle.lexopt_options_spec.proofs.Lists.{count_append, same_somes, split}
-use Rattle.lexopt_laws.proofs.OneStop.{Compared, same, shorter, longer, compared, IsMissing, lacks_argument, refuses_word, lacks_option, Left, undeclared_first, flag_value, valueless, refused_first, no_room, at_end, left_of, not_shorter}
+use Rattle.lexopt_laws.proofs.OneStop.{Compared, same, shorter, longer, compared, IsMissing, lacks_argument, refuses_word, lacks_option, excludes_option, Left, undeclared_first, flag_value, valueless, refused_first, no_room, at_end, left_of, not_shorter}
 
 -- ---- the first thing that asks
 
@@ -50,7 +50,7 @@ asked_alone d words a ask = ap (first_asked d.options) (sym (append-nil (asking 
 
 pub asked_of_list : (d : Declaration) (words : List (List ℕ)) (l : List Parsed) (a : Asked) → Means d words l → AskFor d words a → first_asked d.options l ≡ Some a
 asked_of_list d words l a means ask =
-    let rest = front_later d words (asking ask) ask.there ask.read l means.front in
+    let rest = front_later d words (asking ask) ask.there ask.read l means.whole.front in
     ap (first_asked d.options) rest.1 ∙ asked_with d words a ask rest.0
 
 -- ---- two options that ask
@@ -124,12 +124,14 @@ kept_before (unexpected_argument word) l s k = (s ∷ k, refl)
 kept_before (invalid_argument index word) l s k = (s ∷ k, refl)
 kept_before (missing_argument count) l s k = (s ∷ k, refl)
 kept_before (missing_option index) l s k = (s ∷ k, refl)
+kept_before (exclusive_options index other) l s k = (s ∷ k, refl)
 
 -- nothing is left out if something is missing at the end
 all_at_end : (d : Declaration) (l : List Parsed) (m : Mistake) → IsMissing d l m → parsed_before m l ≡ l
 all_at_end d l m (lacks_argument m_is few) = ap (λ x. parsed_before x l) m_is
 all_at_end d l m (refuses_word index word m_is enough unfit) = ap (λ x. parsed_before x l) m_is
 all_at_end d l m (lacks_option index m_is enough taken first) = ap (λ x. parsed_before x l) m_is
+all_at_end d l m (excludes_option index other m_is enough taken complete first) = ap (λ x. parsed_before x l) m_is
 
 -- nothing is left out after an option that asks, since that has no joined value
 all_before : (d : Declaration) (words : List (List ℕ)) (a : Asked) (ask : AskFor d words a) (l : List Parsed) (m : Mistake) (final : Reply) (ms ns : List Item) → ms ≡ ns

@@ -12,6 +12,7 @@ pub mod Stays
 pub mod OneItem
 pub mod AnyWords
 pub mod Missing
+pub mod Clashes
 pub mod OneStop
 pub mod StateLaws
 pub mod AskedOnce

@@ -1,7 +1,7 @@
 -- Options that can be declared together can occur in legal lines.
-use Rattle.std.proofs.Common.{◌≡◌, ◌≢◌, encode_utf8, ℕ, zero, suc, true, List, [], ◌∷◌, ◌++◌, slice_get, Some, refl, sym, ap, subst, ◌∙◌, arith}
+use Rattle.std.proofs.Common.{◌≡◌, ◌≢◌, ◌==◌, ◌&&◌, encode_utf8, ℕ, zero, suc, Bool, true, false, not, List, [], ◌∷◌, ◌++◌, slice_get, Some, refl, sym, ap, subst, ◌∙◌, arith}
 use Rattle.std.specs.List.{Contains}
-use Rattle.std.proofs.lemmas.Bool.{and_from, eq-eqb, or_left, or_right}
+use Rattle.std.proofs.lemmas.Bool.{and_from, eq-eqb, eqb-true, or_left, or_right}
 use Rattle.std.proofs.lemmas.Option.{same_Some}
 use Rattle.std.specs.Char.{IsScalar}
 use Rattle.lexopt_spec.specs.Pieces.{lossy_characters}
@@ -12,7 +12,7 @@ use Rattle.lexopt_line_spec.proofs.Names.{encoded}
 use Rattle.lexopt_line_spec.proofs.SpellerTests.{dash_first}
 use Rattle.lexopt_options_spec.specs.Completion.{AreText, IsOpen, IsOption, IsText, spelling}
 use Rattle.lexopt_options_spec.specs.Declaration.{Declaration, Declared, accepts, are_listable, has_name, index_of, is_sound}
-use Rattle.lexopt_options_spec.specs.Legal.{Parsed, option, several, positional, Means, is_option, most, occurs}
+use Rattle.lexopt_options_spec.specs.Legal.{AreApart, Parsed, option, several, positional, Means, are_same, clash, exclude, exclusive_at, is_option, most, occurs}
 use Rattle.lexopt_options_spec.proofs.Listed.{list_good, value_fits, value_for}
 use Rattle.lexopt_options_spec.proofs.Sound.{IsGoodName, found, good}
 use Rattle.lexopt_options_spec.proofs.Occurs.{AreNamed, can_occur}
@@ -76,12 +76,31 @@ one_spelling (long name) (long n) text also good fine is = ap long (tail_same da
 
 -- ---- a line with an option
 
+-- one option alone excludes no other that is there
+alone : (options : List Declared) (i : ℕ) → AreApart options (λ k. i == k)
+alone options i = λ a b. by a b (i == a) refl (i == b) refl
+  where
+    none : (b : Bool) → (b && false) ≡ false
+    none true = refl
+    none false = refl
+
+    by : (a b : ℕ) (one : Bool) → (i == a) ≡ one → (other : Bool) → (i == b) ≡ other → clash options (λ k. i == k) a b ≡ false
+    by a b false is other too = rw is (none (exclude options a b))
+    by a b true is false too = rw (is, too) (none (exclude options a b))
+    by a b true is true too =
+        ap (λ (same : Bool). (not same && are_same (exclusive_at options a) (exclusive_at options b)) && ((i == a) && (i == b))) (eq-eqb b a (sym (eqb-true i b too) ∙ eqb-true i a is))
+
 pub in_a_line : (d : Declaration) (name : Name) (i : ℕ) → is_sound d.options ≡ true → are_listable d.positionals ≡ true → AreText d.options → ((o : Declared) → Contains d.options o → (n : Name) × (has_name n o ≡ true))
     → index_of d.options name ≡ Some i → (words : List (List ℕ)) × (l : List Parsed) × Means d words l × (occurs i l ≡ true)
 in_a_line d name i sound good_lists text names declared =
-    let possible = can_occur d [] [] name i sound text (named d.options names) (open_first d) refl (none_filled d.positionals good_lists) declared (text name (found (has_name name) d.options i declared)) in
+    let made = can_occur d [] [] name i sound text (named d.options names) (open_first d) refl (none_filled d.positionals good_lists) declared (text name (found (has_name name) d.options i declared)) in
+    let possible = made.0 in
     let other = text possible.name (found (has_name possible.name) d.options possible.index possible.declared) in
     let same = one_spelling name possible.name (text name (found (has_name name) d.options i declared)) other (good d.options name i sound declared)
     (good d.options possible.name possible.index sound possible.declared) possible.spelled in
-    let index = same_Some possible.index i (sym possible.declared ∙ ap (index_of d.options) (sym same) ∙ declared) in
-    (spelling name ∷ possible.rest, possible.before ++ possible.parsed ∷ possible.later, possible.line_means, among i possible.before possible.parsed possible.later (is_one i possible.parsed (subst (λ j. IsOption j possible.parsed) index possible.is)))
+    let index = same_Some possible.index i (sym possible.declared ∙ ap (index_of d.options) (sym same) ∙ declared) in (
+      spelling name ∷ possible.rest,
+      possible.before ++ possible.parsed ∷ possible.later,
+      record { whole = possible.line_means; apart = made.1 (alone d.options i) },
+      among i possible.before possible.parsed possible.later (is_one i possible.parsed (subst (λ j. IsOption j possible.parsed) index possible.is)),
+    )

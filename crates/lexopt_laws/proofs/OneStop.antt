@@ -18,21 +18,25 @@ use Rattle.lexopt_line_spec.proofs.ReadingSteps.{says_positional, reads_last, re
 use Rattle.lexopt_line_spec.proofs.RunAccounts.{step_line}
 use Rattle.lexopt_options_spec.specs.Declaration.{Declaration, Declared, index_of, table}
 use Rattle.lexopt_options_spec.specs.Legal as legal
-use Rattle.lexopt_options_spec.specs.Legal.{Parsed, parsed_item, positional, positional_count, positional_words, most, IsWithin, are_accepted, is_option, refused_value}
+use Rattle.lexopt_options_spec.specs.Legal.{Parsed, parsed_item, positional, positional_count, positional_words, most, IsWithin, are_accepted, is_option, is_required, occurs, refused_value}
 use Rattle.lexopt_options_spec.specs.Places.{AreTaken, IsNotTaken, least}
-use Rattle.lexopt_options_spec.specs.Stops.{Mistake, unknown_option, unexpected_value, missing_value, invalid_value, unexpected_argument, invalid_argument, missing_argument, missing_option, IsFirstMissing, Stops, not_declared, value_of_flag, no_value, not_accepted, one_too_many, too_few, not_taken, not_complete, StopsAt}
+use Rattle.lexopt_options_spec.specs.Stops.{Mistake, unknown_option, unexpected_value, missing_value, invalid_value, unexpected_argument, invalid_argument, missing_argument, missing_option, exclusive_options, IsFirstClash, IsFirstMissing, Stops, not_declared, value_of_flag, no_value, not_accepted, one_too_many, too_few, not_taken, not_complete, not_apart, StopsAt}
 use Rattle.lexopt_options_spec.proofs.Lists.{first_same, split, first_none, first_is, same_somes, count_append}
 use Rattle.lexopt_options_spec.proofs.Taken.{not_both, one_refused}
 use Rattle.lexopt_options_spec.proofs.Fronts.{above, item_of, not_refused, undeclared}
+use Rattle.lexopt_laws.proofs.Clashes.{one_first_clash}
 use Rattle.lexopt_laws.proofs.Missing.{one_first_missing}
 
 -- ---- the unread line where a reading stops
 
--- this was read to the end, and a positional or an option is missing, or a word is not accepted
+-- this was read to the end, and a positional or an option is missing, a word is not accepted, or two
+-- options exclude each other
 pub data IsMissing (d : Declaration) (l : List Parsed) (m : Mistake) : Type 0 where
   lacks_argument : m ≡ missing_argument (positional_count l) → positional_count l < least d.positionals → IsMissing d l m
   refuses_word : (index : ℕ) (word : List ℕ) → m ≡ invalid_argument index word → least d.positionals ≤ positional_count l → IsNotTaken d.positionals (positional_words l) index word → IsMissing d l m
   lacks_option : (index : ℕ) → m ≡ missing_option index → least d.positionals ≤ positional_count l → AreTaken d.positionals (positional_words l) → IsFirstMissing d.options l index → IsMissing d l m
+  excludes_option : (index other : ℕ) → m ≡ exclusive_options index other → least d.positionals ≤ positional_count l → AreTaken d.positionals (positional_words l) → ((i : ℕ) → is_required d.options i ≡ true → occurs i l ≡ true)
+      → IsFirstClash d.options (λ i. occurs i l) index other → IsMissing d l m
 
 -- after this was read, the unread line gives these items and then this reply, so this is the
 -- mistake
@@ -118,6 +122,12 @@ left_of d l u m line (not_complete index v step enough taken first) = record {
   items = [];
   reading = reads_last (table d.options) u v steps.end tt step;
   left = at_end (lacks_option index refl enough taken first) refl refl;
+}
+left_of d l u m line (not_apart index other v step enough taken complete first) = record {
+  final = steps.end;
+  items = [];
+  reading = reads_last (table d.options) u v steps.end tt step;
+  left = at_end (excludes_option index other refl enough taken complete first) refl refl;
 }
 
 -- ---- two lists, each in two parts
@@ -214,16 +224,27 @@ same_missing : (d : Declaration) (l : List Parsed) (m n : Mistake) → IsMissing
 same_missing d l m n (lacks_argument m_is few) (lacks_argument n_is few2) = m_is ∙ sym n_is
 same_missing d l m n (lacks_argument m_is few) (refuses_word index2 word2 n_is enough2 unfit2) = absurd (omega arith)
 same_missing d l m n (lacks_argument m_is few) (lacks_option index2 n_is enough2 taken2 first2) = absurd (omega arith)
+same_missing d l m n (lacks_argument m_is few) (excludes_option index2 other2 n_is enough2 taken2 complete2 first2) = absurd (omega arith)
 same_missing d l m n (refuses_word index word m_is enough unfit) (lacks_argument n_is few2) = absurd (omega arith)
 same_missing d l m n (refuses_word index word m_is enough unfit) (refuses_word index2 word2 n_is enough2 unfit2) =
     let same = one_refused d.positionals (positional_words l) index index2 word word2 unfit unfit2 in
     m_is ∙ ap (λ i. invalid_argument i word) same.0 ∙ ap (invalid_argument index2) same.1 ∙ sym n_is
 same_missing d l m n (refuses_word index word m_is enough unfit) (lacks_option index2 n_is enough2 taken2 first2) =
     absurd (not_both d.positionals (positional_words l) index word unfit taken2)
+same_missing d l m n (refuses_word index word m_is enough unfit) (excludes_option index2 other2 n_is enough2 taken2 complete2 first2) =
+    absurd (not_both d.positionals (positional_words l) index word unfit taken2)
 same_missing d l m n (lacks_option index m_is enough taken first) (lacks_argument n_is few2) = absurd (omega arith)
 same_missing d l m n (lacks_option index m_is enough taken first) (refuses_word index2 word2 n_is enough2 unfit2) =
     absurd (not_both d.positionals (positional_words l) index2 word2 unfit2 taken)
 same_missing d l m n (lacks_option index m_is enough taken first) (lacks_option index2 n_is enough2 taken2 first2) = m_is ∙ ap missing_option (one_first_missing d.options l index index2 first first2) ∙ sym n_is
+same_missing d l m n (lacks_option index m_is enough taken first) (excludes_option index2 other2 n_is enough2 taken2 complete2 first2) = absurd (false≢true (sym first.absent ∙ complete2 index first.here))
+same_missing d l m n (excludes_option index other m_is enough taken complete first) (lacks_argument n_is few2) = absurd (omega arith)
+same_missing d l m n (excludes_option index other m_is enough taken complete first) (refuses_word index2 word2 n_is enough2 unfit2) =
+    absurd (not_both d.positionals (positional_words l) index2 word2 unfit2 taken)
+same_missing d l m n (excludes_option index other m_is enough taken complete first) (lacks_option index2 n_is enough2 taken2 first2) = absurd (false≢true (sym first2.absent ∙ complete index2 first2.here))
+same_missing d l m n (excludes_option index other m_is enough taken complete first) (excludes_option index2 other2 n_is enough2 taken2 complete2 first2) =
+    let same = one_first_clash d.options (λ i. occurs i l) index other index2 other2 first first2 in
+    m_is ∙ ap (λ i. exclusive_options i other) same.0 ∙ ap (exclusive_options index2) same.1 ∙ sym n_is
 
 -- the rest of the word of an undeclared option is the same
 abbrev SameTails : Mistake → Mistake → Type 0
@@ -243,6 +264,7 @@ tail_left d l u m name tail (one_too_many word v step limit) is = let e : unexpe
 tail_left d l u m name tail (too_few v step few) is = let e : missing_argument (positional_count l) ≡ unknown_option name tail = is in absurd (cc)
 tail_left d l u m name tail (not_taken index word v step enough unfit) is = let e : invalid_argument index word ≡ unknown_option name tail = is in absurd (cc)
 tail_left d l u m name tail (not_complete index v step enough taken first) is = let e : missing_option index ≡ unknown_option name tail = is in absurd (cc)
+tail_left d l u m name tail (not_apart index other v step enough taken complete first) is = let e : exclusive_options index other ≡ unknown_option name tail = is in absurd (cc)
 
 same_tails : (d : Declaration) (l k : List Parsed) (u : UnreadLine) (m n : Mistake) → Stops d l u m → Stops d k u n → SameTails m n
 same_tails d l k u m n stops again = λ name tail other is too.

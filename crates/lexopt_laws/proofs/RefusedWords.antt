@@ -10,14 +10,14 @@ use Rattle.lexopt_line_spec.specs.Readings.{ReadsFirst, ReadsItems, start}
 use Rattle.lexopt_options_spec.specs.Declaration.{Declaration, Positional, Words, accepts, files, directories, text, listed, is_sound, table}
 use Rattle.lexopt_options_spec.specs.Legal.{Parsed, Means, MeansFront, option, several, positional, are_accepted, counts, is_option, most, positional_count, positional_words}
 use Rattle.lexopt_options_spec.specs.Places.{ArePlaces, AreTaken, IsNotTaken, least, refused_word, takes_at}
-use Rattle.lexopt_options_spec.specs.Stops.{Mistake, ReadsUpTo, Stops, StopsAt, invalid_argument, not_declared, value_of_flag, no_value, not_accepted, one_too_many, too_few, not_taken, not_complete}
-use Rattle.lexopt_options_spec.proofs.Fronts.{ComesTo, comes_to, front_later, StopsEarly, no_front, not_refused, one_front}
+use Rattle.lexopt_options_spec.specs.Stops.{Mistake, ReadsUpTo, Stops, StopsAt, invalid_argument, not_declared, value_of_flag, no_value, not_accepted, one_too_many, too_few, not_taken, not_complete, not_apart}
+use Rattle.lexopt_options_spec.proofs.Fronts.{ComesTo, comes_to, front_later, StopsEarly, no_front, not_refused, one_front, whole_front}
 use Rattle.lexopt_options_spec.proofs.Shares.{one_places}
 use Rattle.lexopt_options_spec.proofs.Taken.{none_first, not_both, one_refused, same_within, some_pair, words_count}
 use Rattle.lexopt_laws.specs.ListedValues.{IsFirstRefused}
 use Rattle.lexopt_laws.proofs.OneStop.{one_item}
 use Rattle.lexopt_laws.proofs.Refused.{found_in, in_list}
-use Rattle.lexopt_laws.proofs.SomeAnswer.{one_more, some_answer, whole_front}
+use Rattle.lexopt_laws.proofs.SomeAnswer.{one_more, some_answer}
 
 -- ---- the first word that is refused
 
@@ -122,15 +122,15 @@ pub words_in_lists : (d : Declaration) (words : List (List ℕ)) (l : List Parse
     → ArePlaces d.positionals (positional_count l) places → slice_get (positional_words l) n ≡ Some word → slice_get places n ≡ Some i → slice_get d.positionals i ≡ Some p → p.words ≡ listed list
     → Contains list word
 words_in_lists d words l places n i word p list means are here belongs owner is =
-    let same = one_places d.positionals (positional_count l) means.taken.places places
-    (subst (λ m. ArePlaces d.positionals m means.taken.places) (words_count l) means.taken.are_places) are in
+    let same = one_places d.positionals (positional_count l) means.whole.taken.places places
+    (subst (λ m. ArePlaces d.positionals m means.whole.taken.places) (words_count l) means.whole.taken.are_places) are in
     let takes = each_taken d.positionals places (positional_words l) n i word
-    (subst (λ q. refused_word d.positionals q (positional_words l) ≡ None) same means.taken.none) here belongs in
+    (subst (λ q. refused_word d.positionals q (positional_words l) ≡ None) same means.whole.taken.none) here belongs in
     in_list list word
     (sym (ap (λ ws. accepts ws word) is) ∙ sym (ap (λ x. unwrap_or (option_map (λ q. accepts q.words word) x) true) owner) ∙ takes)
 
 pub none_refused : (d : Declaration) (words : List (List ℕ)) (l : List Parsed) (i : ℕ) (word : List ℕ) → Means d words l → IsNotTaken d.positionals (positional_words l) i word → ⊥
-none_refused d words l i word means unfit = not_both d.positionals (positional_words l) i word unfit means.taken
+none_refused d words l i word means unfit = not_both d.positionals (positional_words l) i word unfit means.whole.taken
 
 -- ---- a line whose reading stops at a word
 
@@ -183,6 +183,9 @@ the_stop d words l i word is k mistake other there m_is (too_few v step few) =
 the_stop d words l i word is k mistake other there m_is (not_complete index v step enough taken first) =
     let same = one_front d words k l (whole_front d words k there.there v is.sound there.read step) is.front in
     absurd (not_both d.positionals (positional_words l) i word is.unfit (subst (λ m. AreTaken d.positionals (positional_words m)) same taken))
+the_stop d words l i word is k mistake other there m_is (not_apart index second v step enough taken complete first) =
+    let same = one_front d words k l (whole_front d words k there.there v is.sound there.read step) is.front in
+    absurd (not_both d.positionals (positional_words l) i word is.unfit (subst (λ m. AreTaken d.positionals (positional_words m)) same taken))
 the_stop d words l i word is k mistake other there m_is (not_taken index w v step enough unfit) =
     let same = one_front d words k l (whole_front d words k there.there v is.sound there.read step) is.front in
     let one = one_refused d.positionals (positional_words l) index i w word (subst (λ m. IsNotTaken d.positionals (positional_words m) index w) same unfit) is.unfit in
@@ -193,7 +196,7 @@ pub stops_at_word : (d : Declaration) (words : List (List ℕ)) (l : List Parsed
 stops_at_word d words l i word sound front accepted enough unfit = ⊎_elim
     (λ (parsed : (k : List Parsed) × Means d words k).
     absurd (not_both d.positionals (positional_words l) i word unfit
-    (subst (λ m. AreTaken d.positionals (positional_words m)) (one_front d words parsed.0 l parsed.1.front front) parsed.1.taken)))
+    (subst (λ m. AreTaken d.positionals (positional_words m)) (one_front d words parsed.0 l parsed.1.whole.front front) parsed.1.whole.taken)))
     (λ (stopped : (k : List Parsed) × (m : Mistake) × StopsAt d words k m).
     let there = comes_to stopped.2 in
     let is : IsRead d words l i word = record { sound = sound; front = front; accepted = accepted; enough = enough; unfit = unfit } in

@@ -23,13 +23,14 @@ use Rattle.lexopt_line_spec.proofs.ReplyKinds.{IsNextReply, next_reply, IsValueR
 use Rattle.lexopt_line_spec.proofs.RunAccounts.{step_line}
 use Rattle.lexopt_line_spec.proofs.Total.{next_answer}
 use Rattle.lexopt_options_spec.specs.Declaration.{Declaration, index_of, is_sound, table}
-use Rattle.lexopt_options_spec.specs.Legal.{Parsed, option, several, positional, parsed_item, counts, positional_count, positional_words, most, IsWithin, is_required, occurs, Means, MeansFront, are_accepted, is_option, refused_value}
+use Rattle.lexopt_options_spec.specs.Legal.{AreApart, Parsed, option, several, positional, parsed_item, counts, positional_count, positional_words, most, IsWithin, is_required, occurs, Means, MeansFront, are_accepted, is_option, refused_value}
 use Rattle.lexopt_options_spec.specs.Places.{AreTaken, IsNotTaken, least}
-use Rattle.lexopt_options_spec.specs.Stops.{Mistake, unknown_option, unexpected_value, missing_value, invalid_value, unexpected_argument, invalid_argument, missing_argument, missing_option, IsFirstMissing, Stops, not_declared, value_of_flag, no_value, not_accepted, one_too_many, too_few, not_taken, not_complete, ReadsUpTo, StopsAt}
-use Rattle.lexopt_options_spec.proofs.Fronts.{front_parsed, nothing_read}
+use Rattle.lexopt_options_spec.specs.Stops.{Mistake, unknown_option, unexpected_value, missing_value, invalid_value, unexpected_argument, invalid_argument, missing_argument, missing_option, exclusive_options, IsFirstClash, IsFirstMissing, Stops, not_declared, value_of_flag, no_value, not_accepted, one_too_many, too_few, not_taken, not_complete, not_apart, ReadsUpTo, StopsAt}
+use Rattle.lexopt_options_spec.proofs.Fronts.{nothing_read, whole_front}
 use Rattle.lexopt_options_spec.proofs.Listed.{accepted_append}
 use Rattle.lexopt_options_spec.proofs.Lists.{count_append, joined}
 use Rattle.lexopt_options_spec.proofs.Taken.{same_within, taken_or_not, words_count, zero_within}
+use Rattle.lexopt_laws.proofs.Clashes.{apart_or_clash}
 use Rattle.lexopt_laws.proofs.Missing.{complete_or_missing}
 
 -- ---- what is read for one item
@@ -108,7 +109,7 @@ one_read d u v item s line first after parsed within = one_more d u u v [] item 
 -- the line is read to its end, or its reading stops
 data Found (d : Declaration) (u : UnreadLine) : Type 0 where
   to_the_end : (l : List Parsed) (v w : UnreadLine) → ReadsUpTo d u l v → Next v steps.end w → least d.positionals ≤ positional_count l → AreTaken d.positionals (positional_words l)
-      → ((i : ℕ) → is_required d.options i ≡ true → occurs i l ≡ true) → are_accepted d.options l ≡ true → Found d u
+      → ((i : ℕ) → is_required d.options i ≡ true → occurs i l ≡ true) → AreApart d.options (λ i. occurs i l) → are_accepted d.options l ≡ true → Found d u
   stopped : (l : List Parsed) (m : Mistake) (v : UnreadLine) → ReadsUpTo d u l v → Stops d l v m → are_accepted d.options l ≡ true → Found d u
 
 -- what is found once the line was read up to one with a smaller bound
@@ -205,7 +206,11 @@ end_found d u v w l read accepted step = ⊎_elim
     (λ (less : positional_count l < least d.positionals). stopped l (missing_argument (positional_count l)) v read (too_few w step less) accepted)
     (λ (enough : least d.positionals ≤ positional_count l). ⊎_elim
     (λ (taken : AreTaken d.positionals (positional_words l)). ⊎_elim
-    (λ (complete : (i : ℕ) → is_required d.options i ≡ true → occurs i l ≡ true). to_the_end l v w read step enough taken complete accepted)
+    (λ (complete : (i : ℕ) → is_required d.options i ≡ true → occurs i l ≡ true). ⊎_elim
+    (λ (apart : AreApart d.options (λ i. occurs i l)). to_the_end l v w read step enough taken complete apart accepted)
+    (λ (clashes : (i : ℕ) × (j : ℕ) × IsFirstClash d.options (λ k. occurs k l) i j).
+    stopped l (exclusive_options clashes.0 clashes.1) v read (not_apart clashes.0 clashes.1 w step enough taken complete clashes.2) accepted)
+    (apart_or_clash d.options (λ i. occurs i l)))
     (λ (lacks : (index : ℕ) × IsFirstMissing d.options l index). stopped l (missing_option lacks.0) v read (not_complete lacks.0 w step enough taken lacks.1) accepted)
     (complete_or_missing d.options l))
     (λ (refused : (index : ℕ) × (word : List ℕ) × IsNotTaken d.positionals (positional_words l) index word).
@@ -233,24 +238,20 @@ found_within d u (suc n) l v read accepted less =
     let a = next_answer v read.line in
     reply_found d u v a.1 l n a.0 read accepted a.2 (next_reply v a.1 a.0 a.2) less (found_within d u n)
 
--- words that are read to the end mean what was read
-pub whole_front : (d : Declaration) (words : List (List ℕ)) (l : List Parsed) (v w : UnreadLine) → is_sound d.options ≡ true → ReadsUpTo d (start d.short_equals words) l v → Next v steps.end w → MeansFront d words l
-whole_front d words l v w sound read ends = front_parsed d sound words read.items l
-    (subst (IsReading (table d.options) (start d.short_equals words) steps.end) (append-nil read.items)
-    (says_items (table d.options) (start d.short_equals words) v read.items read.read steps.end [] (reads_last (table d.options) v w steps.end tt ends)))
-    read.parsed read.within
-
 answer_of : (d : Declaration) (words : List (List ℕ)) → is_sound d.options ≡ true → Found d (start d.short_equals words)
     → ((l : List Parsed) × Means d words l) ⊎ ((l : List Parsed) × (m : Mistake) × StopsAt d words l m)
-answer_of d words sound (to_the_end l v w read ends enough taken complete accepted) =
+answer_of d words sound (to_the_end l v w read ends enough taken complete apart accepted) =
     inl (
       l,
       record {
-        front = whole_front d words l v w sound read ends;
-        enough = enough;
-        taken = taken;
-        complete = complete;
-        accepted = accepted;
+        whole = record {
+          front = whole_front d words l v w sound read ends;
+          enough = enough;
+          taken = taken;
+          complete = complete;
+          accepted = accepted;
+        };
+        apart = apart;
       },
     )
 answer_of d words sound (stopped l m v read stops accepted) = inr (l, m, record { there = v; read = read; stops = stops; accepted = accepted })

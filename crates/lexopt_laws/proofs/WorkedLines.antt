@@ -1,5 +1,5 @@
 -- Words on lines, and parts of the help, for the worked examples.
-use Rattle.std.proofs.Common.{◌≡◌, ◌≤◌, ◌<◌, ◌++◌, ◌∷◌, [], ℕ, List, codes, drop, length, inl, inr, sym, ap, subst, append-nil}
+use Rattle.std.proofs.Common.{◌≡◌, ◌≤◌, ◌<◌, ◌++◌, ◌∷◌, [], ℕ, List, None, codes, drop, length, inl, inr, sym, ap, subst, append-nil}
 use Rattle.std.specs.List.{AllZip}
 use Rattle.lexopt_options_spec.specs.Declaration.{Declaration, Declared, Detail}
 use Rattle.lexopt_options_spec.specs.Help.{Fits, IsEntry, IsOption, IsUsage, IsUsageLine, Line, first_usage, heading_lines, label, line_columns, option_text, words_of}
@@ -21,5 +21,5 @@ one_usage {width = width} {d = d} line is none = record {
 }
 
 -- an option without a heading
-pub alone : {detail : Detail} {width : ℕ} {o : Declared} {text : List ℕ} → IsEntry width (label o) (option_text detail o) text → o.heading ≡ [] → IsOption detail width o text
+pub alone : {detail : Detail} {width : ℕ} {o : Declared} {text : List ℕ} → IsEntry width (label o) (option_text detail o) text → o.heading ≡ None → IsOption detail width o text
 alone {text = text} is none = record { own = text; is_entry = is; written = ap (λ heading. heading_lines heading ++ text) (sym none) }

@@ -31,6 +31,21 @@ after_flag {d = d} {words = words} name i v k parsed within step stops =
       accepted = refl;
     }
 
+-- after two flags
+pub after_flags : {d : Declaration} {words : List (List ℕ)} {m : Mistake} (name other : Name) (i j : ℕ) (v w : UnreadLine) → kind (table d.options) name ≡ flag → kind (table d.options) other ≡ flag
+    → parsed_item d.options (spec.option name None) ≡ Some (option i None) → parsed_item d.options (spec.option other None) ≡ Some (option j None) → IsWithin 0 (most d.positionals)
+    → Next (start d.short_equals words) (option_reply name) v → Next v (option_reply other) w → Stops d (option i None ∷ option j None ∷ []) w m → StopsAt d words (option i None ∷ option j None ∷ []) m
+after_flags {d = d} {words = words} name other i j v w k l parsed too within step again stops =
+    let u = start d.short_equals words in
+    let line = step_line next u (option_reply name) v tt step in
+    let first = one_more d u u v [] (spec.option name None) (option i None) (nothing_read d u tt) (first_flag name v k step) line parsed within in
+    record {
+      there = w;
+      read = one_more d u v w (option i None ∷ []) (spec.option other None) (option j None) first (first_flag other w l again) (step_line next v (option_reply other) w line again) too within;
+      stops = stops;
+      accepted = refl;
+    }
+
 -- after a positional
 pub after_positional : {d : Declaration} {words : List (List ℕ)} {m : Mistake} (word : List ℕ) (v : UnreadLine) → IsWithin 1 (most d.positionals)
     → Next (start d.short_equals words) (steps.positional word) v → Stops d (positional word ∷ []) v m → StopsAt d words (positional word ∷ []) m

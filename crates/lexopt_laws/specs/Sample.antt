@@ -13,12 +13,13 @@ verbose = record {
   kind = flag;
   placeholder = [];
   help = codes "tell more";
-  details = [];
+  details = None;
   asks = None;
-  heading = [];
+  heading = None;
   hidden = false;
   required = false;
   default = None;
+  exclusive = None;
   words = spec.files;
   hides_list = false;
   aliases = [];
@@ -32,12 +33,13 @@ output = record {
   kind = one;
   placeholder = codes "FILE";
   help = codes "the archive";
-  details = [];
+  details = None;
   asks = None;
-  heading = [];
+  heading = None;
   hidden = false;
   required = false;
   default = None;
+  exclusive = None;
   words = spec.files;
   hides_list = false;
   aliases = [];
@@ -51,12 +53,13 @@ backup = record {
   kind = optional;
   placeholder = codes "SUFFIX";
   help = codes "keep an archive that is there, with this suffix";
-  details = [];
+  details = None;
   asks = None;
-  heading = [];
+  heading = None;
   hidden = false;
   required = false;
   default = None;
+  exclusive = None;
   words = spec.files;
   hides_list = false;
   aliases = [];
@@ -70,12 +73,13 @@ exclude = record {
   kind = several;
   placeholder = codes "PATTERN";
   help = codes "leave these out: all words up to the next option";
-  details = [];
+  details = None;
   asks = None;
-  heading = [];
+  heading = None;
   hidden = false;
   required = false;
   default = None;
+  exclusive = None;
   words = spec.files;
   hides_list = false;
   aliases = [];
@@ -148,6 +152,13 @@ sample positionals short_equals = record {
 abbrev pub named : List ℕ → Declared
 named name = record verbose { short_name = None; long_name = Some name }
 
+-- `-v` and `--quiet`, which exclude each other, around `-o`
+abbrev pub exclusive_sample : Declaration
+exclusive_sample = record (sample [] true) {
+  options = record verbose { exclusive = Some (codes "telling") } ∷ output
+      ∷ record (named (codes "quiet")) { exclusive = Some (codes "telling") } ∷ [];
+}
+
 -- six long names that begin alike
 abbrev pub names_in_re : List (List ℕ)
 names_in_re = codes "recursive" ∷ codes "reference" ∷ codes "regexp" ∷ codes "remove"
@@ -160,12 +171,13 @@ asks_for_help = record {
   kind = flag;
   placeholder = [];
   help = codes "print this help and exit";
-  details = [];
+  details = None;
   asks = Some for_help;
-  heading = [];
+  heading = None;
   hidden = false;
   required = false;
   default = None;
+  exclusive = None;
   words = spec.files;
   hides_list = false;
   aliases = [];
@@ -177,7 +189,7 @@ asks_for_version = record asks_for_help {
   short_name = None;
   long_name = Some (codes "version");
   help = codes "print the version and exit";
-  details = [];
+  details = None;
   asks = Some (for_version (codes "1.0"));
 }
 
@@ -195,12 +207,13 @@ user = record {
   kind = one;
   placeholder = codes "NAME";
   help = codes "the owner of the archive";
-  details = [];
+  details = None;
   asks = None;
-  heading = [];
+  heading = None;
   hidden = false;
   required = true;
   default = None;
+  exclusive = None;
   words = spec.files;
   hides_list = false;
   aliases = [];
@@ -222,9 +235,9 @@ hiding_sample = record (sample [] true) { options = hiding_options }
 
 -- `-v` and `-o` have one heading, since that of a hidden option is left out; `-h` has another
 abbrev pub options_with_headings : List Declared
-options_with_headings = record verbose { heading = codes "Telling" }
-    ∷ record exclude { heading = codes "Leaving out"; hidden = true } ∷ output
-    ∷ record asks_for_help { heading = codes "Other" } ∷ []
+options_with_headings = record verbose { heading = Some (codes "Telling") }
+    ∷ record exclude { heading = Some (codes "Leaving out"); hidden = true } ∷ output
+    ∷ record asks_for_help { heading = Some (codes "Other") } ∷ []
 
 -- options that accept only the values in a list
 abbrev pub listed_mode : Declared
@@ -234,12 +247,13 @@ listed_mode = record {
   kind = one;
   placeholder = codes "MODE";
   help = codes "how to pack";
-  details = [];
+  details = None;
   asks = None;
-  heading = [];
+  heading = None;
   hidden = false;
   required = false;
   default = None;
+  exclusive = None;
   words = spec.listed (codes "fast" ∷ codes "slow" ∷ []);
   hides_list = false;
   aliases = [];
@@ -248,7 +262,7 @@ listed_mode = record {
 
 abbrev pub explained_mode : Declared
 explained_mode = record listed_mode {
-  details = codes "How to pack.";
+  details = Some (codes "How to pack.");
   default = Some (codes "fast");
 }
 

@@ -41,6 +41,7 @@ ghost use Rattle.lexopt_options_spec.specs.Places.{ArePlaces, AreShares, CanTake
 ghost use Rattle.lexopt_options_spec.specs.States.{LeadsNowhere, Leaves, anything, due};
 ghost use Rattle.lexopt_options_spec.specs.States.{ended, first, further};
 ghost use Rattle.lexopt_options_spec.specs.Stops.{IsFirstMissing, Mistake, StopsAt};
+ghost use Rattle.lexopt_options_spec.specs.Stops.{exclusive_options};
 ghost use Rattle.lexopt_options_spec.specs.Stops.{invalid_argument, invalid_value};
 ghost use Rattle.lexopt_options_spec.specs.Stops.{missing_argument, missing_option};
 ghost use Rattle.lexopt_options_spec.specs.Stops.{missing_value, placeholder_at};
@@ -51,7 +52,7 @@ ghost use Rattle.lexopt_options_spec.specs.Help.{IsUsage, LabelForm, Wraps};
 ghost use Rattle.lexopt_options_spec.specs.Help.{beside, blanks, entry, gap, label, label_of};
 ghost use Rattle.lexopt_options_spec.specs.Help.{line_columns, line_text};
 ghost use Rattle.lexopt_laws.specs.Sample.{asking_sample, asks_for_help, asks_for_version, explained_mode};
-ghost use Rattle.lexopt_laws.specs.Sample.{backup, described_files, exclude};
+ghost use Rattle.lexopt_laws.specs.Sample.{backup, described_files, exclude, exclusive_sample};
 ghost use Rattle.lexopt_laws.specs.Sample.{files, form_in_list, mode, mode_in_list, output, sample};
 ghost use Rattle.lexopt_options_spec.specs.Nearest.{IsDistance, IsHint, IsNearest, beginning};
 ghost use Rattle.lexopt_options_spec.specs.Nearest.{ending, hinted_names, if_one, long_names};
@@ -712,6 +713,24 @@ fn lines_need_what_is_required()
     ensures none_of_one { (l : List Parsed) → Means (sample (sources ∷ []) true) [] l → ⊥ }
 {}
 
+// A line has at most one of two options that exclude each other, and may have it twice. With both,
+// its reading stops at the end, whichever comes first, and it means nothing.
+fn lines_have_one_of_these()
+    ensures first { Means exclusive_sample (codes "-v" ∷ []) (option 0 None ∷ []) }
+    ensures second { Means exclusive_sample (codes "--quiet" ∷ []) (option 2 None ∷ []) }
+    ensures twice { Means exclusive_sample (codes "-v" ∷ codes "-v" ∷ [])
+        (option 0 None ∷ option 0 None ∷ []) }
+    ensures both { StopsAt exclusive_sample (codes "-v" ∷ codes "--quiet" ∷ [])
+        (option 0 None ∷ option 2 None ∷ []) (exclusive_options 0 2) }
+    ensures in_the_other_order { StopsAt exclusive_sample (codes "--quiet" ∷ codes "-v" ∷ [])
+        (option 2 None ∷ option 0 None ∷ []) (exclusive_options 0 2) }
+    ensures nothing_meant { (l : List Parsed)
+        → Means exclusive_sample (codes "-v" ∷ codes "--quiet" ∷ []) l → ⊥ }
+    ensures no_other_mistake { (l : List Parsed) (m : Mistake)
+        → StopsAt exclusive_sample (codes "-v" ∷ codes "--quiet" ∷ []) l m
+        → (l ≡ option 0 None ∷ option 2 None ∷ []) × (m ≡ exclusive_options 0 2) }
+{}
+
 // What is read of lists, where `-o` has the default f and `--mode` the default slow.
 fn defaults_come_before_what_was_read()
     ensures both { with_defaults options_with_defaults (option 1 None ∷ positional (codes "a") ∷ [])
@@ -771,6 +790,8 @@ fn options_are_read_before_mistakes()
         ≡ option 0 None ∷ [] }
     ensures option_missing { parsed_before (missing_option 4) (option 0 None ∷ [])
         ≡ option 0 None ∷ [] }
+    ensures options_excluded { parsed_before (exclusive_options 0 2) (option 2 None ∷ option 0 None ∷ [])
+        ≡ option 2 None ∷ option 0 None ∷ [] }
 {}
 
 // Lines that ask for something.

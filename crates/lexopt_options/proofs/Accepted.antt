@@ -1,13 +1,10 @@
 -- Whether options accept the values that they have.
 use Rattle.lexopt_options.proofs.Common.{◌≡◌, ◌==◌, ◌||◌, ◌∷◌, ◌<◌, ◌⊎◌, inl, inr, ℕ, Bool, true, false, not, List, [], map, length, position, cond, Option, Some, None, is_none, option_and_then}
 use Rattle.lexopt_options.proofs.Common.{slice_get, unwrap_or, get_or, refl, sym, ap, ◌∙◌, list_any, is_some, option_map, false≢true, not-true, slice_get-map, slice_get-get_or, slice_get_read}
-use Rattle.lexopt_options.proofs.Common.{list_of, is_required, refused_value, Declared, option_view, words_view}
+use Rattle.lexopt_options.proofs.Common.{list_of, is_required, refused_value, Declared, option_view, words_view, Bor, position-Some, Words}
 use Rattle.std.specs.Cmp.Lexicographic.{pointwise}
-use Rattle.std.specs.Borrow.{Bor}
-use Rattle.std.proofs.lemmas.List.Quantifiers.{position-Some}
 use Rattle.lexopt_options_spec.specs.Declaration as spec
 use Rattle.lexopt_options_spec.specs.Legal as legal
-use Rattle.lexopt_declaration.specs.declared.declaration.Words.{Words}
 use Rattle.lexopt_declaration.specs.declared.declaration.Words.TheVariants as variant
 
 -- a value that is listed

@@ -8,7 +8,5 @@ use Rattle.lexopt_options.specs.declared.request.Request.TheVariants as request
 use Rattle.lexopt_options.specs.Requests.{IsCompletionRequest, IsRequest}
 
 pub completion_asked : (value : Option (List ℕ)) (words : List (List ℕ)) (shell : Shell) (r : Request) → value ≡ Some (request_text (asks.Completion shell)) → IsCompletionRequest words r → IsRequest value words r
-completion_asked value words shell (request.Line own) asked is = absurd is
 completion_asked value words shell (request.Completion before typed) asked is = ((shell, asked), is)
-completion_asked value words shell (request.Script other) asked is = absurd is
-completion_asked value words shell request.Unknown asked is = absurd is
+completion_asked value words shell r asked is = absurd is

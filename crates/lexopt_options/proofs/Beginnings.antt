@@ -3,32 +3,24 @@ use Rattle.lexopt_options.proofs.Common.{◌≡◌, ◌↔◌, IsTrue, ℕ, Bool
 use Rattle.lexopt_options.proofs.Common.{dash, pending, pending_in, Next, NextStep, option_reply, start, Name, Declaration, index_of, is_sound, IsWithin, MeansFront, Parsed, most, positional_count}
 use Rattle.lexopt_options.proofs.Common.{LeadsNowhere, Leaves, Says, leaves_anything, leaves_due, leaves_first, leaves_further, leaves_ended, state_at_end, takes_positional, IsOfOption, Mistake}
 use Rattle.lexopt_options.proofs.Common.{ReadsUpTo, Stops, invalid_value, missing_value, not_declared, unexpected_value, unknown_option, value_of_flag, false≢true, same_last, front_says, says_front}
-use Rattle.lexopt_options.proofs.Common.{says_once, words_count, ◌≤◌}
+use Rattle.lexopt_options.proofs.Common.{says_once, words_count, ◌≤◌, enough, whole_front, is_separated, start_view, RestStart, Separated, Surplus, UndeclaredNext, IsAfterName, IsFront, IsFrontOf}
+use Rattle.lexopt_options.proofs.Common.{state_view, Front, State}
 use Rattle.lexopt_spec.specs.Steps as steps
 use Rattle.lexopt_line_spec.specs.Table as table
 use Rattle.lexopt_options_spec.specs.Legal as legal
 use Rattle.lexopt_options_spec.specs.Rest.{EndsSeparated, IsSplit, separated, surplus}
 use Rattle.lexopt_options_spec.specs.Rest as rests
 use Rattle.lexopt_options_spec.specs.States as spec
-use Rattle.lexopt_options_spec.proofs.Cuts.{enough}
 use Rattle.lexopt_options_spec.proofs.Growing.{EndsSo, ended_before, ends_so, open_there, separator_last}
 use Rattle.lexopt_options_spec.proofs.OneRest.{ended_alone, mistaken, separator_left, surplus_alone}
 use Rattle.lexopt_options_spec.proofs.Reached.{surplus_nowhere, undeclared_nowhere, unexpected_nowhere, value_stops, values_nowhere, values_stop}
 use Rattle.lexopt_options_spec.proofs.Rests.{before_here, front_read, word_read}
 use Rattle.lexopt_options.specs.Begun.{IsBegun, TellsEnd, TellsRest, TellsSeparator, is_ended, surplus_begun}
-use Rattle.lexopt_options.specs.RestStarts.{is_separated, start_view}
-use Rattle.lexopt_options.specs.declared.rest.RestStart.{RestStart}
-use Rattle.lexopt_options.specs.declared.rest.RestStart.TheVariants.{Separated, Surplus}
-use Rattle.lexopt_options.specs.Reading.{UndeclaredNext}
-use Rattle.lexopt_options.specs.States.{IsAfterName, IsFront, IsFrontOf, state_view}
 use Rattle.lexopt_options.specs.declared.front.Begun.TheVariants as begun
 use Rattle.lexopt_options.specs.declared.front.AfterName.TheVariants as after
-use Rattle.lexopt_options.specs.declared.front.Front.{Front}
-use Rattle.lexopt_options.specs.declared.front.State.{State}
 use Rattle.lexopt_options.specs.declared.front.State.TheVariants as state
 use Rattle.lexopt_options.proofs.Fronts.{HasReached, counted, front_at_end, front_lacking}
 use Rattle.lexopt_options.proofs.ReadNext.{kind_of_index}
-use Rattle.lexopt_options.proofs.WholeLines.{front}
 
 -- after a positional no value is pending
 pub nothing_pending : (u w : UnreadLine) (word : List ℕ) → Next u (steps.positional word) w → pending w ≡ None
@@ -116,20 +108,14 @@ tells_end d words l u v sound read not next ended is = by (ends_so u v (enough N
     by (separator_last none before one after) false is = absurd (false≢true (is ∙ ap (λ (x : UnreadLine). x.ended) after))
     by (separator_last none before one after) true is =
         let own = before_here d sound words l u read none in
-        (l, front_says d words l (front d words l u v sound read next), record { before = own.0; words_are = own.1 ∙ ap (λ ws. own.0 ++ ws) one; says = own.2; within = read.within })
+        (l, front_says d words l (whole_front d words l u v sound read next), record { before = own.0; words_are = own.1 ∙ ap (λ ws. own.0 ++ ws) one; says = own.2; within = read.within })
 
 ended_is : (s : State) (going : Option ℕ) (ended : Bool) → state_view s ≡ state_at_end going ended → is_ended s ≡ ended
 ended_is state.Ended going true is = refl
-ended_is state.Ended None false is = absurd (let e : spec.ended ≡ spec.anything = is in cc)
-ended_is state.Ended (Some i) false is = absurd (let e : spec.ended ≡ spec.further i = is in cc)
-ended_is state.Anything going true is = absurd (let e : spec.anything ≡ spec.ended = is in cc)
-ended_is state.Anything going false is = refl
-ended_is (state.Due i) going true is = absurd (let e : spec.due i ≡ spec.ended = is in cc)
-ended_is (state.Due i) going false is = refl
-ended_is (state.First i) going true is = absurd (let e : spec.first i ≡ spec.ended = is in cc)
-ended_is (state.First i) going false is = refl
-ended_is (state.Further i) going true is = absurd (let e : spec.further i ≡ spec.ended = is in cc)
-ended_is (state.Further i) going false is = refl
+ended_is state.Ended None false is = cc
+ended_is state.Ended (Some i) false is = cc
+ended_is s going true is = cc
+ended_is s going false is = cc
 
 pub separated_view : (begins : RestStart) → start_view begins ≡ separated → begins ≡ Separated
 separated_view Surplus is = absurd (let e : surplus ≡ separated = is in cc)

@@ -3,9 +3,9 @@ use Rattle.lexopt_options.proofs.Common.{append-nil, zero, suc, ◌≡◌, ◌�
 use Rattle.lexopt_options.proofs.Common.{subst, ◌∙◌, inl, inr, arith, Result, Ok, Err, IfOk, Contains, flat_map, starts_with, IsUtf8, ◌<◌, ◌==◌, ◌≢◌, encode_utf8, and_parts, eqb-true, false≢true}
 use Rattle.lexopt_options.proofs.Common.{filter-append, same_Some, slice_get_within, BeginsWith, dash, MeansFront, parsed_item, last_item, same_last, front_says, says_once, Says, Item, Name, AreText}
 use Rattle.lexopt_options.proofs.Common.{HasRole, IsJoined, IsOption, JoinsValue, is_offered, joined_at, list_of, listed_by, offered_values, spelling, spellings, texts, values_at, filled}
-use Rattle.lexopt_options.proofs.Common.{positional_words, words_at, declaration_of, options_of, long_name, option_view, positional_view, short_name, spelling_view, words_view}
+use Rattle.lexopt_options.proofs.Common.{positional_words, words_at, declaration_of, options_of, long_name, option_view, positional_view, short_name, spelling_view, words_view, AllocError, Options}
+use Rattle.lexopt_options.proofs.Common.{Names}
 use Rattle.std.specs.Global.{Global}
-use Rattle.std.specs.declared.alloc.AllocError.{AllocError}
 use Rattle.lexopt_options_spec.specs.Declaration.{Declaration, Declared, has_name, index_of, is_sound}
 use Rattle.lexopt_options_spec.specs.Legal as legal
 use Rattle.lexopt_options_spec.proofs.Sound.{known, option_there}
@@ -15,12 +15,10 @@ use Rattle.lexopt_options_spec.specs.Completion as spec
 use Rattle.lexopt_options_spec.proofs.Roles.{extends}
 use Rattle.lexopt_options_spec.proofs.Occurs.{AreNamed, occurs_accepted, occurs_open, occurs_taken}
 use Rattle.lexopt_options_spec.specs.Declaration.{Positional, are_listable}
-use Rattle.lexopt_options.specs.declared.options.Options.{Options}
 use Rattle.lexopt_options_spec.proofs.Tables.{long_named, short_named}
 use Rattle.lexopt_declaration.specs.declared.spellings.Spelling.{Spelling}
 use Rattle.lexopt_declaration.specs.declared.declaration.Positional as rust_positional
 use Rattle.lexopt_declaration.specs.declared.declaration.Declared as rust
-use Rattle.lexopt_declaration.specs.declared.declaration.Names.{Names}
 use Rattle.lexopt_declaration.specs.declared.declaration.Names.TheVariants as names
 use Rattle.lexopt_options_spec.proofs.Offered.{completes_offered, offered_completes}
 use Rattle.lexopt_options.specs.Completions.{AreOffered, CanCome, Opens, joined_values, values_so, word_values, words_so}
@@ -140,9 +138,8 @@ pub joined_declared : (d : Declaration) (words : List (List ℕ)) (typed : List 
 joined_declared d words typed i before joins = of joins.last joins.is (last_declared d (typed ∷ []) joins.others joins.last joins.word_means)
   where
     of : (s : legal.Parsed) → IsOption i s → IsDeclared (length d.options) (spec.role_of joins.others s) → i < length d.options
-    of (legal.option j value) same within = subst (λ n. n < length d.options) same within
-    of (legal.several j values) same within = subst (λ n. n < length d.options) same within
     of (legal.positional word) same within = absurd same
+    of s same within = subst (λ n. n < length d.options) same within
 
 -- ---- values in lists
 

@@ -35,16 +35,13 @@ some_view : (value : Option (Bor (List ℕ))) → is_some (option_map (λ x. x.n
 some_view None = refl
 some_view (Some x) = refl
 
-pub noted_view : {F V M S : Type 0} (o : Declared F V M S) (b : Bool) → b ≡ is_some o.default → (o.required || b) ≡ is_noted (option_view o)
-noted_view o b is = ap (λ x. o.required || x) (is ∙ sym (some_view o.default))
-
 pub required_noted : (options : List spec.Declared) (i : ℕ) → is_required options i ≡ true → is_noted_at options i ≡ true
 required_noted [] i is = absurd (false≢true is)
-required_noted (o ∷ os) zero is = or_left o.required (is_some o.default) is
+required_noted (o ∷ os) zero is = or_left o.required _ is
 required_noted (o ∷ os) (suc i) is = required_noted os i is
 
 default_noted : (options : List spec.Declared) (i : ℕ) (o : spec.Declared) (value : List ℕ) → slice_get options i ≡ Some o → o.default ≡ Some value → is_noted_at options i ≡ true
-default_noted options i o value at is = noted_is options i o at ∙ or_right o.required (is_some o.default) (ap is_some is)
+default_noted options i o value at is = noted_is options i o at ∙ or_right o.required _ (or_left (is_some o.default) _ (ap is_some is))
 
 -- ---- one option
 

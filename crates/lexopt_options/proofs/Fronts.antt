@@ -5,19 +5,13 @@ use Rattle.lexopt_options.proofs.Common.{IsNormalIn, UnreadLine, pending, Next, 
 use Rattle.lexopt_options.proofs.Common.{refusal_reply, take_reply, kind_of, option_view, words_view, CanBeTaken, HasRole, IsJoined, IsOpen, IsOption, JoinsValue, value_of, Declaration, index_of}
 use Rattle.lexopt_options.proofs.Common.{is_sound, IsWithin, MeansFront, Parsed, accepts_at, are_accepted, counts, most, positional_count, positional_words, refused_value, LeadsNowhere, Leaves, Says}
 use Rattle.lexopt_options.proofs.Common.{leaves_anything, leaves_due, leaves_first, leaves_further, leaves_ended, role_in, state_at_end, not_empty, same_last, count_append, words_append, words_count}
-use Rattle.lexopt_options.proofs.Common.{append-nil}
-use Rattle.std.specs.Borrow.{Bor}
+use Rattle.lexopt_options.proofs.Common.{append-nil, Bor, ValuesStep, Step, bound, step_line, Refusal, one_front, enough, CanCome, Opens, kind_at, ReadsParsed, parsed_with, Front, State}
 use Rattle.std.proofs.Math.Bool.{and-true}
 use Rattle.std.proofs.lemmas.List.Folds.{list_all-append}
 use Rattle.lexopt_spec.specs.Steps as steps
-use Rattle.lexopt_spec.specs.Views.{ValuesStep}
 use Rattle.lexopt_spec.specs.Runs as calls
-use Rattle.lexopt_spec.specs.Runs.{Step}
-use Rattle.lexopt_line_spec.specs.Bound.{bound}
 use Rattle.lexopt_line_spec.specs.Table as table
-use Rattle.lexopt_line_spec.proofs.RunAccounts.{step_line}
 use Rattle.lexopt_base.specs.Pending.{is_joined}
-use Rattle.lexopt_base.specs.declared.refusal.Refusal.{Refusal}
 use Rattle.lexopt_base.specs.declared.refusal.Refusal.TheVariants.{MissingValue, OutOfMemory, UnexpectedValue}
 use Rattle.lexopt_declaration.specs.declared.declaration.Declared as rust
 use Rattle.lexopt_declaration.specs.declared.declaration.Kind as rust_kind
@@ -25,19 +19,12 @@ use Rattle.lexopt_declaration.specs.declared.declaration.Kind.TheVariants as rus
 use Rattle.lexopt_options_spec.specs.Declaration as declared
 use Rattle.lexopt_options_spec.specs.Legal as legal
 use Rattle.lexopt_options_spec.specs.States as spec
-use Rattle.lexopt_options_spec.proofs.Fronts.{one_front}
-use Rattle.lexopt_options_spec.proofs.Cuts.{enough}
 use Rattle.lexopt_options_spec.proofs.Growing.{Grows, grows_flag, grows_one, grows_optional, grows_positional, grows_several, values_lack}
 use Rattle.lexopt_options_spec.proofs.Reached.{Reached, closed_reached, end_leaves, first_due, nothing_reached, open_reached, value_due}
 use Rattle.lexopt_options_spec.proofs.States.{front_says, says_front, never_open, nowhere_open, open_there, role_there, says_once}
-use Rattle.lexopt_options.specs.Completions.{CanCome, Opens}
-use Rattle.lexopt_options.specs.Kinds.{kind_at}
-use Rattle.lexopt_options.specs.Reading.{ReadsParsed, parsed_with}
 use Rattle.lexopt_options.specs.States.{IsFront, IsAfterName, IsLast, can_go_on, first_of, index_if, state_view, with_index}
-use Rattle.lexopt_options.specs.declared.front.Front.{Front}
 use Rattle.lexopt_options.specs.declared.front.AfterName.{AfterName}
 use Rattle.lexopt_options.specs.declared.front.AfterName.TheVariants as after
-use Rattle.lexopt_options.specs.declared.front.State.{State}
 use Rattle.lexopt_options.specs.declared.front.State.TheVariants as state
 use Rattle.lexopt_options.proofs.Accepted.{at_place, first_refused, first_there, none_cond, view_there}
 use Rattle.lexopt_options.proofs.Keys.{found_within}

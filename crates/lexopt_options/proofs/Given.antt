@@ -46,9 +46,7 @@ pub parsed_still : {F V P M S : Type 0} (positionals : List (Positional P)) (cou
 parsed_still positionals count n options [] [] [] each are = tt
 parsed_still positionals count n options (s ∷ l) (x ∷ xs) (y ∷ ys) each are =
     (parsed_so options s x y each.0.0 are.0, parsed_still positionals count (word_count (x ∷ []) + n) options l xs ys each.1 are.1)
-parsed_still positionals count n options l [] (y ∷ ys) each are = absurd each
-parsed_still positionals count n options l (x ∷ xs) [] each are = absurd each
-parsed_still positionals count n options l xs ys each are = absurd are
+parsed_still positionals count n options l xs ys each are = search
 
 word_cons : {F V P M S : Type 0} (x : Parsed F V P M S) (xs : List (Parsed F V P M S)) → word_count (x ∷ xs) ≡ word_count (x ∷ []) + word_count xs
 word_cons x xs = ap length (keys_append (x ∷ []) xs) ∙ length-append (positional_keys (x ∷ [])) (positional_keys xs)

@@ -1,25 +1,18 @@
 -- What is read, by keys.
-use Rattle.std.proofs.Common.{◌≡◌, ◌<◌, ℕ, List, [], ◌∷◌, ◌++◌, map, length, Option, Some, None, Vec, slice_get, refl, ap, ◌∙◌, arith}
+use Rattle.lexopt_options.proofs.Common.{◌≡◌, ◌<◌, ℕ, List, [], ◌∷◌, ◌++◌, map, length, Option, Some, None, Vec, slice_get, refl, ap, ◌∙◌, arith, length-map, position-Some, slice_get-map, Name}
+use Rattle.lexopt_options.proofs.Common.{has_name, index_of, Declared, options_of, Options}
 use Rattle.std.specs.Option.{option_map}
 use Rattle.std.specs.Prelude.{option_and_then}
-use Rattle.std.proofs.lemmas.List.{length-map}
-use Rattle.std.proofs.lemmas.List.Quantifiers.{position-Some}
-use Rattle.std.proofs.lemmas.Option.{slice_get-map}
-use Rattle.lexopt_line_spec.specs.Table.{Name}
 use Rattle.lexopt_options_spec.specs.Declaration as spec
-use Rattle.lexopt_options_spec.specs.Declaration.{has_name, index_of}
 use Rattle.lexopt_options_spec.specs.Asking.{all_but_last, asked_at, asked_by, first_asked, or_asked}
 use Rattle.lexopt_options_spec.specs.Legal as legal
 use Rattle.lexopt_declaration.specs.Models.{asked_of, kind_of, option_view}
-use Rattle.lexopt_declaration.specs.declared.declaration.Declared.{Declared}
 use Rattle.lexopt_declaration.specs.declared.declaration.Kind.{Kind}
 use Rattle.lexopt_declaration.specs.declared.declaration.Kind.TheVariants as kind
 use Rattle.lexopt_options.specs.declared.parsed.Asked.TheVariants as asked
 use Rattle.lexopt_options.specs.declared.parsed.Parsed.{Parsed}
 use Rattle.lexopt_options.specs.declared.parsed.Parsed.TheVariants as parsed
 use Rattle.lexopt_options.specs.declared.parsed.ByKey.TheVariants as told
-use Rattle.lexopt_options.specs.Declarations.{options_of}
-use Rattle.lexopt_options.specs.declared.options.Options.{Options}
 use Rattle.lexopt_options.specs.Keys.{AreParsedAs, HasKind, IsParsedAs, IsByKey}
 
 -- ---- the option at an index
@@ -93,20 +86,17 @@ asked_more options l s none is = asked_none options l (s ∷ []) none ∙ ap (λ
 pub parsed_more : {F V P M S : Type 0} (options : List (Declared F V M S)) (l : List legal.Parsed) (parsed : List (Parsed F V P M S)) (s : legal.Parsed) (own : Parsed F V P M S) → AreParsedAs options l parsed → IsParsedAs options s own
     → AreParsedAs options (l ++ s ∷ []) (parsed ++ own ∷ [])
 parsed_more options [] [] s own are is = (is, tt)
-parsed_more options [] (x ∷ parsed) s own are is = absurd are
-parsed_more options (x ∷ l) [] s own are is = absurd are
 parsed_more options (x ∷ l) (y ∷ parsed) s own are is = (are.0, parsed_more options l parsed s own are.1 is)
+parsed_more options l parsed s own are is = absurd are
 
 -- if nothing asks for anything, nothing before the last does
 pub none_before : (options : List spec.Declared) (l : List legal.Parsed) → first_asked options l ≡ None → first_asked options (all_but_last l) ≡ None
-none_before options [] none = refl
-none_before options (s ∷ []) none = refl
 none_before options (s ∷ t ∷ l) none =
     let both = none_both (asked_by options s) (first_asked options (t ∷ l)) none in
     ap (λ a. or_asked a (first_asked options (all_but_last (t ∷ l)))) both.0 ∙ none_before options (t ∷ l) both.1
+none_before options l none = refl
 
 pub parsed_length : {F V P M S : Type 0} (options : List (Declared F V M S)) (l : List legal.Parsed) (xs : List (Parsed F V P M S)) → AreParsedAs options l xs → length l ≡ length xs
 parsed_length options [] [] are = refl
-parsed_length options [] (x ∷ xs) are = absurd are
-parsed_length options (s ∷ l) [] are = absurd are
 parsed_length options (s ∷ l) (x ∷ xs) are = let rest = parsed_length options l xs are.1 in omega (arith, rest)
+parsed_length options l xs are = absurd are

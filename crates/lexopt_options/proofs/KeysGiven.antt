@@ -1,33 +1,21 @@
 -- The keys of what was read before a mistake.
+use Rattle.lexopt_options.proofs.Common.{◌≤◌, ℕ, zero, suc, List, [], ◌∷◌, take, sym, subst, arith, all_but_last, parsed_before, IsWithin, most, positional_count, Positional, Options, declaration_of}
+use Rattle.lexopt_options.proofs.Common.{options_of, positionals_of, AllFirst, AreParsedAs, CanHaveKeys, positional_keys}
 use Rattle.std.proofs.Math.Seq.{take-nil}
-use Rattle.std.proofs.Common.{◌≤◌, ℕ, zero, suc, List, [], ◌∷◌, take, sym, subst, arith}
-use Rattle.lexopt_options_spec.specs.Asking.{all_but_last, parsed_before}
 use Rattle.lexopt_options_spec.specs.Legal as legal
-use Rattle.lexopt_options_spec.specs.Legal.{IsWithin, most, positional_count}
 use Rattle.lexopt_options_spec.specs.Stops as stops
-use Rattle.lexopt_declaration.specs.declared.declaration.Positional.{Positional}
-use Rattle.lexopt_options.specs.declared.options.Options.{Options}
 use Rattle.lexopt_options.specs.declared.parsed.Parsed.{Parsed}
 use Rattle.lexopt_options.specs.declared.parsed.Parsed.TheVariants as parsed
-use Rattle.lexopt_options.specs.Declarations.{declaration_of, options_of, positionals_of}
-use Rattle.lexopt_options.specs.Keys.{AllFirst, AreParsedAs, CanHaveKeys, positional_keys}
 use Rattle.lexopt_options_spec.proofs.Taken.{less_within}
 use Rattle.lexopt_options.proofs.ReadKeys.{keys_count}
 
 no_more : (l : List legal.Parsed) → positional_count (all_but_last l) ≤ positional_count l
-no_more [] = omega arith
-no_more (s ∷ []) = omega arith
 no_more (s ∷ t ∷ l) = let rest = no_more (t ∷ l) in omega (arith, rest)
+no_more l = omega arith
 
 before_fewer : (why : stops.Mistake) (l : List legal.Parsed) → positional_count (parsed_before why l) ≤ positional_count l
 before_fewer (stops.unexpected_value option value) l = no_more l
-before_fewer (stops.unknown_option name left) l = omega arith
-before_fewer (stops.missing_value index option) l = omega arith
-before_fewer (stops.invalid_value index value) l = omega arith
-before_fewer (stops.invalid_argument index word) l = omega arith
-before_fewer (stops.unexpected_argument word) l = omega arith
-before_fewer (stops.missing_argument count) l = omega arith
-before_fewer (stops.missing_option index) l = omega arith
+before_fewer why l = omega arith
 
 pub can_have_before : {F V P M S : Type 0} (o : Options F V P M S) (l : List legal.Parsed) (why : stops.Mistake) (xs : List (Parsed F V P M S)) → IsWithin (positional_count l) (most (declaration_of o).positionals)
     → AreParsedAs (options_of o) (parsed_before why l) xs → AllFirst (positionals_of o) (positional_keys xs) → CanHaveKeys (positionals_of o) xs
@@ -48,8 +36,5 @@ can_have o l xs within are first = record {
 pub first_kept : {F V P M S : Type 0} (positionals : List (Positional P)) (n : ℕ) (xs : List (Parsed F V P M S)) → AllFirst positionals (positional_keys xs) → AllFirst positionals (positional_keys (take n xs))
 first_kept {F} {V} {P} {M} {S} positionals n [] first = subst (λ (l : List (Parsed F V P M S)). AllFirst positionals (positional_keys l)) (sym (take-nil n)) tt
 first_kept positionals zero (x ∷ xs) first = tt
-first_kept positionals (suc n) (parsed.Flag key ∷ xs) first = first_kept positionals n xs first
-first_kept positionals (suc n) (parsed.Value key word ∷ xs) first = first_kept positionals n xs first
-first_kept positionals (suc n) (parsed.Maybe key value ∷ xs) first = first_kept positionals n xs first
-first_kept positionals (suc n) (parsed.Values key values ∷ xs) first = first_kept positionals n xs first
 first_kept positionals (suc n) (parsed.Positional key word ∷ xs) first = (first.0, first_kept positionals n xs first.1)
+first_kept positionals (suc n) (x ∷ xs) first = first_kept positionals n xs first

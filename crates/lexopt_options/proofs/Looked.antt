@@ -1,9 +1,7 @@
 -- What an index finds.
-use Rattle.std.proofs.Common.{◌≡◌, ◌<◌, ◌≤◌, ℕ, Bool, false, List, length, get_or, unwrap_or, option_map, refl, ap}
+use Rattle.lexopt_options.proofs.Common.{◌≡◌, ◌<◌, ◌≤◌, ℕ, Bool, false, List, length, get_or, unwrap_or, option_map, refl, ap, Positional, Words}
 use Rattle.std.proofs.lemmas.Option.{slice_get_past}
-use Rattle.lexopt_declaration.specs.declared.declaration.Positional.{Positional}
-use Rattle.lexopt_declaration.specs.declared.declaration.Words.{Words}
-use Rattle.lexopt_declaration.specs.declared.declaration.Words.TheVariants.{Files, Directories, Text, Listed}
+use Rattle.lexopt_declaration.specs.declared.declaration.Words.TheVariants.{Files, Directories}
 use Rattle.lexopt_options.specs.Answers.{are_at, are_directories, are_files}
 use Rattle.lexopt_options.proofs.Accepted.{at_place}
 
@@ -16,12 +14,8 @@ are_past are ps i past = ap (λ found. unwrap_or (option_map (λ p. are p.words)
 
 pub no_files : (words : Words) → (words ≡ Files → ⊥) → are_files words ≡ false
 no_files Files not = absurd (not refl)
-no_files Directories not = refl
-no_files Text not = refl
-no_files (Listed values) not = refl
+no_files words not = refl
 
 pub no_directories : (words : Words) → (words ≡ Directories → ⊥) → are_directories words ≡ false
 no_directories Directories not = absurd (not refl)
-no_directories Files not = refl
-no_directories Text not = refl
-no_directories (Listed values) not = refl
+no_directories words not = refl

@@ -1,24 +1,16 @@
 -- Why an option that was just read has no value.
-use Rattle.std.proofs.Common.{◌≡◌, ◌≢◌, ℕ, List, Some, None, string_bytes, refl, sym, subst, ◌∙◌, inl, inr}
-use Rattle.lexopt_spec.specs.UnreadLine.{UnreadLine}
+use Rattle.lexopt_options.proofs.Common.{◌≡◌, ◌≢◌, ℕ, List, Some, None, string_bytes, refl, sym, subst, ◌∙◌, inl, inr, UnreadLine, Kind, Name, ValuesEndBy, refusal_reply, MissingValue}
+use Rattle.lexopt_options.proofs.Common.{UnexpectedValue, Declaration, index_of, is_sound, kind_at, IsMistake, StopsAtOption}
 use Rattle.lexopt_spec.specs.Steps as steps
 use Rattle.lexopt_spec.specs.Steps.{Reply, Next, missing, unexpected}
 use Rattle.lexopt_spec.specs.Views.{ValuesStep, no_values, some_values}
 use Rattle.lexopt_spec.specs.Runs.{Call, Step, StepWithMemory}
 use Rattle.lexopt_line_spec.specs.Table as spec
-use Rattle.lexopt_line_spec.specs.Table.{Kind, Name}
 use Rattle.lexopt_line_spec.specs.Readings.{IsDue, option_reply}
-use Rattle.lexopt_line_spec.specs.Values.{ValuesEndBy}
 use Rattle.lexopt_line_spec.proofs.LastOption.{missing_names}
 use Rattle.lexopt_line_spec.proofs.ReplyKinds.{value_reply, optional_reply}
-use Rattle.lexopt_base.specs.Refusals.{refusal_reply}
-use Rattle.lexopt_base.specs.declared.refusal.Refusal.TheVariants.{MissingValue, UnexpectedValue}
 use Rattle.std.proofs.Common.{String, Global, Option, IsSome, true}
-use Rattle.lexopt_options_spec.specs.Declaration.{Declaration, index_of, is_sound}
 use Rattle.lexopt_options_spec.specs.Stops as stops
-use Rattle.lexopt_options.specs.Kinds.{kind_at}
-use Rattle.lexopt_options.specs.Mistakes.{IsMistake}
-use Rattle.lexopt_options.specs.Reading.{StopsAtOption}
 use Rattle.lexopt_options.specs.declared.mistake.Mistake.{Mistake}
 use Rattle.lexopt_options.proofs.ReadNext.{kind_of_index}
 

@@ -1,9 +1,8 @@
 -- Which positional each word of a line belongs to, word by word.
 use Rattle.lexopt_options.proofs.Common.{◌≡◌, ◌≤◌, ◌<◌, ◌+◌, ◌-◌, ℕ, zero, suc, List, [], ◌∷◌, ◌++◌, length, drop, map, get_or, replicate, Some, None, slice_get, refl, sym, ap, subst, ◌∙◌, arith}
 use Rattle.lexopt_options.proofs.Common.{AllZip, option_map, drop_all, drop_more, get_or-map, length-map, length-take-le, get_or_from_slice_get, slice_get-get_or, slice_get_within, IsWithin, most}
-use Rattle.lexopt_options.proofs.Common.{ArePlaces, extra, greedy, least, needs, owners, places_are, some_places, owners_length, slice_get_take, positional_view, Positional}
+use Rattle.lexopt_options.proofs.Common.{ArePlaces, extra, greedy, least, needs, owners, places_are, some_places, owners_length, slice_get_take, positional_view, Positional, AllFirst, HasKey}
 use Rattle.lexopt_options_spec.specs.Declaration as spec
-use Rattle.lexopt_options.specs.Keys.{AllFirst, HasKey}
 
 -- ---- the word at an index
 

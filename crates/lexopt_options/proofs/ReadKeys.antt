@@ -1,45 +1,27 @@
 -- One step of reading a line by keys.
-use Rattle.std.proofs.Common.{◌≡◌, ◌↔◌, IsTrue, ◌≤◌, ◌+◌, ◌==◌, ◌||◌, ◌&&◌, ℕ, suc, Bool, Ok, Option, is_none, true, false, add-zero, List, [], ◌∷◌, ◌++◌, None, Some, length, refl, sym, ap, subst, ◌∙◌, inl, inr, arith}
-use Rattle.lexopt_spec.specs.UnreadLine.{UnreadLine, IsLine, LastOption, no_option, short_option, long_option, no_tail, joined, rest, equals, BeginsWith}
+use Rattle.lexopt_options.proofs.Common.{UnreadLine, IsLine, LastOption, no_option, short_option, long_option, Reply, Next, NextStep, unexpected, found_as, RepliesWith, Found, asked_by, first_asked}
+use Rattle.lexopt_options.proofs.Common.{parsed_before, enough, accepted_append, IsWithin, are_accepted, counts, most, occurs, parsed_item, positional_count, refused_value, IsOfOption, Stops}
+use Rattle.lexopt_options.proofs.Common.{Declared, option_reply, start, Kind, Name, Values, at_most_one, all, ReadsValues, Declaration, has, index_of, table, Options, RestStart, Separated, Surplus}
+use Rattle.lexopt_options.proofs.Common.{is_separated, declaration_of, options_of, positionals_of, kind_at, AllFirst, AreParsedAs, HasKey, IsParsedAs, IsByKey, positional_keys, IsMistake, Positional}
+use Rattle.lexopt_options.proofs.Common.{IsOption, eq-eqb, eqb-true, false≢true}
+use Rattle.std.proofs.Common.{◌≡◌, ◌↔◌, IsTrue, ◌≤◌, ◌+◌, ◌==◌, ◌||◌, ◌&&◌, ℕ, suc, Bool, Ok, Option, is_none, true, false, add-zero, List, [], ◌∷◌, ◌++◌, None, Some, length, refl, sym, ap, subst, ◌∙◌, arith}
 use Rattle.lexopt_spec.specs.Steps as steps
-use Rattle.lexopt_spec.specs.Steps.{Reply, Next, NextStep, ReadsPositional, no_word_left, word_left, ReadsWord, no_word, reads_separator, reads_long, reads_cluster, reads_positional, unexpected, joined_value, equals_value, next_in_cluster, after_separator, next_word}
-use Rattle.lexopt_base.specs.Found.{found_as}
-use Rattle.lexopt_base.specs.Replies.{RepliesWith}
-use Rattle.lexopt_base.specs.declared.parser.Found.{Found}
 use Rattle.lexopt_base.specs.declared.parser.Found.TheVariants as found
-use Rattle.lexopt_options_spec.specs.Asking.{asked_by, first_asked, parsed_before}
 use Rattle.lexopt_options_spec.specs.Legal as legal
-use Rattle.lexopt_options_spec.proofs.Listed.{accepted_append}
+use Rattle.lexopt_line_spec.proofs.Exact.{next_same}
 use Rattle.lexopt_options_spec.proofs.Fronts.{nothing_read}
 use Rattle.lexopt_options_spec.proofs.PastSeparator.{option_open}
-use Rattle.lexopt_options_spec.specs.Legal.{IsWithin, are_accepted, counts, most, occurs, parsed_item, positional_count, refused_value}
-use Rattle.lexopt_options_spec.specs.Stops.{IsOfOption, Stops}
-use Rattle.lexopt_declaration.specs.declared.declaration.Declared.{Declared}
-use Rattle.lexopt_line_spec.specs.Readings.{option_reply, start}
-use Rattle.lexopt_line_spec.specs.Table.{Kind, Name}
-use Rattle.lexopt_line_spec.specs.Values.{Values, at_most_one, all, ReadsValues}
-use Rattle.lexopt_options_spec.specs.Declaration.{Declaration, has, index_of, table}
-use Rattle.lexopt_options.specs.declared.options.Options.{Options}
-use Rattle.lexopt_options.specs.declared.rest.RestStart.{RestStart}
-use Rattle.lexopt_options.specs.declared.rest.RestStart.TheVariants.{Separated, Surplus}
-use Rattle.lexopt_options.specs.RestStarts.{is_separated}
 use Rattle.lexopt_options.specs.declared.parsed.Parsed.{Parsed}
 use Rattle.lexopt_options.specs.declared.parsed.ByKey.{ByKey}
-use Rattle.lexopt_options.specs.Declarations.{declaration_of, options_of, positionals_of}
-use Rattle.lexopt_options.specs.Kinds.{kind_at}
-use Rattle.lexopt_options.specs.Keys.{AllFirst, AreParsedAs, HasKey, IsParsedAs, IsByKey, positional_keys}
 use Rattle.lexopt_options_spec.specs.Stops as stops
 use Rattle.lexopt_options.specs.declared.mistake.Mistake.{Mistake}
-use Rattle.lexopt_options.specs.Mistakes.{IsMistake}
 use Rattle.lexopt_options.specs.Reading.{HasRead, HasStopped, StopsAtOption, AreSeen, IsReadByKey, ReadsParsed, is_noted_at, noted, parsed_with}
 use Rattle.lexopt_options.specs.declared.parsed.Parsed.TheVariants as variant
-use Rattle.lexopt_declaration.specs.declared.declaration.Positional.{Positional}
-use Rattle.lexopt_options_spec.specs.Completion.{IsOption}
 use Rattle.lexopt_options_spec.specs.Declaration as spec
-use Rattle.std.proofs.lemmas.Bool.{eq-eqb, eqb-true, false≢true}
 use Rattle.std.proofs.Math.Bool.{or-false}
 use Rattle.lexopt_options.proofs.Keys.{asked_more, parsed_length, parsed_more}
 use Rattle.lexopt_options.proofs.ReadNext.{count_more, count_small, more_within, no_count, one_more, option_parsed}
+use Rattle.std.proofs.lemmas.List.Folds.{list_any-append}
 
 pub at_start : {F V P M S : Type 0} (o : Options F V P M S) (begins : RestStart) (u : UnreadLine) {parsed : List (Parsed F V P M S)} {seen : List ℕ} → IsLine u → u.ended ≡ false → parsed ≡ [] → seen ≡ [] → HasRead o begins u u 0 seen parsed
 at_start {F} {V} {P} {M} {S} o begins u {parsed} {seen} line not none_parsed none_seen = subst (λ (xs : List (Parsed F V P M S)). HasRead o begins u u 0 seen xs) (sym none_parsed) (subst (λ (l : List ℕ). HasRead o begins u u 0 l []) (sym none_seen) (record {
@@ -57,17 +39,14 @@ at_start {F} {V} {P} {M} {S} o begins u {parsed} {seen} line not none_parsed non
 -- ---- which options were seen
 
 is_option_so : (i index : ℕ) (s : legal.Parsed) → IsOption index s → legal.is_option i s ≡ (index == i)
-is_option_so i index (legal.option j value) is = ap (λ n. n == i) is
-is_option_so i index (legal.several j values) is = ap (λ n. n == i) is
 is_option_so i index (legal.positional word) is = absurd is
+is_option_so i index s is = ap (λ n. n == i) is
 
 occurs_last : (i : ℕ) (l : List legal.Parsed) (s : legal.Parsed) → occurs i (l ++ s ∷ []) ≡ (occurs i l || legal.is_option i s)
-occurs_last i [] s = or-false (legal.is_option i s)
-occurs_last i (x ∷ l) s = elim (legal.is_option i x) as (λ b. (b || occurs i (l ++ s ∷ [])) ≡ ((b || occurs i l) || legal.is_option i s)) [ true ↦ refl | false ↦ occurs_last i l s ]
+occurs_last i l s = list_any-append (legal.is_option i) l (s ∷ []) ∙ ap (λ b. occurs i l || b) (or-false (legal.is_option i s))
 
 has_last : (i : ℕ) (l : List ℕ) (x : ℕ) → has i (l ++ x ∷ []) ≡ (has i l || (x == i))
-has_last i [] x = or-false (x == i)
-has_last i (y ∷ l) x = elim (y == i) as (λ b. (b || has i (l ++ x ∷ [])) ≡ ((b || has i l) || (x == i))) [ true ↦ refl | false ↦ has_last i l x ]
+has_last i l x = list_any-append (λ b. b == i) l (x ∷ []) ∙ ap (λ b. has i l || b) (or-false (x == i))
 
 pub seen_more : (options : List spec.Declared) (l : List legal.Parsed) (seen : List ℕ) (index : ℕ) (s : legal.Parsed) → IsOption index s → AreSeen options l seen
     → AreSeen options (l ++ s ∷ []) (noted (is_noted_at options index) index seen)
@@ -91,35 +70,26 @@ seen_same options l seen word are = λ i needed. are i needed ∙ sym (or-false 
 
 pub keys_append : {F V P M S : Type 0} (xs ys : List (Parsed F V P M S)) → positional_keys (xs ++ ys) ≡ positional_keys xs ++ positional_keys ys
 keys_append [] ys = refl
-keys_append (variant.Flag key ∷ xs) ys = keys_append xs ys
-keys_append (variant.Value key word ∷ xs) ys = keys_append xs ys
-keys_append (variant.Maybe key value ∷ xs) ys = keys_append xs ys
-keys_append (variant.Values key values ∷ xs) ys = keys_append xs ys
 keys_append (variant.Positional key word ∷ xs) ys = ap (λ l. key ∷ l) (keys_append xs ys)
+keys_append (x ∷ xs) ys = keys_append xs ys
 
 firsts_append : {P : Type 0} (positionals : List (Positional P)) (ks ls : List P) → AllFirst positionals ks → AllFirst positionals ls → AllFirst positionals (ks ++ ls)
 firsts_append positionals [] ls first others = others
 firsts_append positionals (k ∷ ks) ls first others = (first.0, firsts_append positionals ks ls first.1 others)
 
 no_key : {F V P M S : Type 0} (options : List (Declared F V M S)) (index : ℕ) (s : legal.Parsed) (own : Parsed F V P M S) → IsParsedAs options s own → IsOption index s → positional_keys (own ∷ []) ≡ []
-no_key options index s (variant.Flag key) is option = refl
-no_key options index s (variant.Value key word) is option = refl
-no_key options index s (variant.Maybe key value) is option = refl
-no_key options index s (variant.Values key values) is option = refl
 no_key options index s (variant.Positional key word) is option = absurd (subst (IsOption index) is option)
+no_key options index s own is option = refl
 
 pub keys_count : {F V P M S : Type 0} (options : List (Declared F V M S)) (l : List legal.Parsed) (xs : List (Parsed F V P M S)) → AreParsedAs options l xs → length (positional_keys xs) ≡ positional_count l
 keys_count options [] [] are = refl
-keys_count options [] (x ∷ xs) are = absurd are
-keys_count options (s ∷ l) [] are = absurd are
 keys_count options (s ∷ l) (x ∷ xs) are = one x are.0 (keys_count options l xs are.1)
   where
     one : (x : Parsed _ _ _ _ _) → IsParsedAs options s x → length (positional_keys xs) ≡ positional_count l → length (positional_keys (x ∷ xs)) ≡ counts s + positional_count l
     one (variant.Flag key) is others = others ∙ sym (ap (λ (y : legal.Parsed). counts y + positional_count l) is.1 ∙ omega arith)
-    one (variant.Value key word) is others = others ∙ sym (ap (λ (y : legal.Parsed). counts y + positional_count l) is.2 ∙ omega arith)
-    one (variant.Maybe key value) is others = others ∙ sym (ap (λ (y : legal.Parsed). counts y + positional_count l) is.2 ∙ omega arith)
-    one (variant.Values key values) is others = others ∙ sym (ap (λ (y : legal.Parsed). counts y + positional_count l) is.2 ∙ omega arith)
     one (variant.Positional key word) is others = ap suc others ∙ sym (ap (λ (y : legal.Parsed). counts y + positional_count l) is ∙ omega arith)
+    one x is others = others ∙ sym (ap (λ (y : legal.Parsed). counts y + positional_count l) is.2 ∙ omega arith)
+keys_count options l xs are = absurd are
 
 -- ---- one more
 
@@ -235,64 +205,16 @@ stopped_there o begins words v count seen parsed m had by =
 
 -- ---- where an option has an unexpected value, nothing else is read
 
-positional_never : (u v : UnreadLine) (o x : List ℕ) → ReadsPositional u (unexpected o x) v → ⊥
-positional_never u v o x (no_word_left none is after) = let e : unexpected o x ≡ steps.end = is in cc
-positional_never u v o x (word_left w ws some is after) = let e : unexpected o x ≡ steps.positional w = is in cc
+found_alone : (u v w : UnreadLine) (r : Reply) (o x : List ℕ) → Next u r w → (r ≡ steps.no_memory → ⊥) → ((p y : List ℕ) → r ≡ unexpected p y → ⊥) → Next u (unexpected o x) v → ⊥
+found_alone u v w r o x found some other stops = other o x (next_same u r (unexpected o x) w v (enough NextStep u r w found some) (enough NextStep u (unexpected o x) v stops (λ is. cc))).0
 
-word_never : (u v : UnreadLine) (o x : List ℕ) → ReadsWord u (unexpected o x) v → ⊥
-word_never u v o x (no_word none is after) = let e : unexpected o x ≡ steps.end = is in cc
-word_never u v o x (reads_separator ws are reads) = positional_never (record u { words = ws; ended = true }) v o x reads
-word_never u v o x (reads_long text name tail ws are some long_is is after) = let e : unexpected o x ≡ steps.long _ = is in cc
-word_never u v o x (reads_cluster bytes ws are other reads) = let e : unexpected o x ≡ steps.short _ = reads.reply_is in cc
-word_never u v o x (reads_positional w ws are plain is after) = let e : unexpected o x ≡ steps.positional w = is in cc
-
--- the value is joined to a long option, or comes after `=` in a cluster
-pub data IsJoinedThere (u : UnreadLine) : Type 0 where
-  to_long : (value : List ℕ) → u.tail ≡ joined value → IsJoinedThere u
-  by_equals : (value : List ℕ) → u.tail ≡ rest (equals ∷ value) → u.short_equals ≡ true → IsJoinedThere u
-
-joined_there : (u v : UnreadLine) (o x : List ℕ) → NextStep u (unexpected o x) v → IsJoinedThere u
-joined_there u v o x (joined_value value option tail spelled is after) = to_long value tail
-joined_there u v o x (equals_value value option tail on spelled is after) = by_equals value tail on
-joined_there u v o x (next_in_cluster bytes tail mark reads) = absurd (let e : unexpected o x ≡ steps.short _ = reads.reply_is in cc)
-joined_there u v o x (after_separator tail ended reads) = absurd (positional_never u v o x reads)
-joined_there u v o x (next_word tail ended reads) = absurd (word_never u v o x reads)
-
-no_joined : (u : UnreadLine) → u.tail ≡ no_tail → IsJoinedThere u → ⊥
-no_joined u none (to_long value tail) = let e : no_tail ≡ joined value = sym none ∙ tail in cc
-no_joined u none (by_equals value tail on) = let e : no_tail ≡ rest (equals ∷ value) = sym none ∙ tail in cc
-
-in_cluster : (u : UnreadLine) (bytes : List ℕ) → u.tail ≡ rest bytes → ((u.short_equals ≡ true) × BeginsWith equals bytes → ⊥) → IsJoinedThere u → ⊥
-in_cluster u bytes tail mark (to_long value is) = let e : rest bytes ≡ joined value = sym tail ∙ is in cc
-in_cluster u bytes tail mark (by_equals value is on) =
-    let e : rest bytes ≡ rest (equals ∷ value) = sym tail ∙ is in
-    let same : bytes ≡ equals ∷ value = cc in
-    mark (on, subst (BeginsWith equals) (sym same) refl)
-
--- `next` returns nothing else there
-never_both : (u w : UnreadLine) (r : Reply) → NextStep u r w → ((o x : List ℕ) → r ≡ unexpected o x → ⊥) → IsJoinedThere u → ⊥
-never_both u w r (joined_value value option tail spelled is after) other there = other option value is
-never_both u w r (equals_value value option tail on spelled is after) other there = other option value is
-never_both u w r (next_in_cluster bytes tail mark reads) other there = in_cluster u bytes tail mark there
-never_both u w r (after_separator tail ended reads) other there = no_joined u tail there
-never_both u w r (next_word tail ended reads) other there = no_joined u tail there
-
-joined_next : (u v : UnreadLine) (o x : List ℕ) → Next u (unexpected o x) v → IsJoinedThere u
-joined_next u v o x (inl step) = joined_there u v o x step
-joined_next u v o x (inr none) = absurd (let e : unexpected o x ≡ steps.no_memory = none.reply_is in cc)
-
-found_alone : (u w : UnreadLine) (r : Reply) → Next u r w → (r ≡ steps.no_memory → ⊥) → ((o x : List ℕ) → r ≡ unexpected o x → ⊥) → IsJoinedThere u → ⊥
-found_alone u w r (inl step) some other there = never_both u w r step other there
-found_alone u w r (inr none) some other there = some none.reply_is
-
--- where `next` finds something, no value is joined
+-- where `next` finds something, it does not find an unexpected value
 pub asks_alone : (u w : UnreadLine) (f : Found) → RepliesWith Next u (found_as w.last f) w → (o x : List ℕ) (v : UnreadLine) → Next u (unexpected o x) v → ⊥
-asks_alone u w (found.Short c) replies o x v step = found_alone u w (steps.short c) replies (λ is. cc) (λ p y is. cc) (joined_next u v o x step)
-asks_alone u w (found.Value word) replies o x v step = found_alone u w (steps.positional word) replies (λ is. cc) (λ p y is. cc) (joined_next u v o x step)
-asks_alone u w found.End replies o x v step = found_alone u w steps.end replies (λ is. cc) (λ p y is. cc) (joined_next u v o x step)
+asks_alone u w (found.Short c) replies o x v step = found_alone u v w (steps.short c) o x replies (λ is. cc) (λ p y is. cc) step
+asks_alone u w (found.Value word) replies o x v step = found_alone u v w (steps.positional word) o x replies (λ is. cc) (λ p y is. cc) step
+asks_alone u w found.End replies o x v step = found_alone u v w steps.end o x replies (λ is. cc) (λ p y is. cc) step
 asks_alone u w found.Long replies o x v step = by_last w.last replies
   where
     by_last : (last : LastOption) → RepliesWith Next u (found_as last found.Long) w → ⊥
-    by_last no_option replies = replies
-    by_last (short_option c) replies = replies
-    by_last (long_option n) replies = found_alone u w (steps.long n) replies (λ is. cc) (λ p y is. cc) (joined_next u v o x step)
+    by_last (long_option n) replies = found_alone u v w (steps.long n) o x replies (λ is. cc) (λ p y is. cc) step
+    by_last last replies = replies

@@ -5,29 +5,22 @@ use Rattle.lexopt_options.proofs.Common.{reads_positional, joined_value, equals_
 use Rattle.lexopt_options.proofs.Common.{ReadsFirst, first_positional, first_flag, first_one, first_optional, first_several, option_reply, encode_utf8, get_or, false, true, MatchOption, unwrap_or}
 use Rattle.lexopt_options.proofs.Common.{slice_get-get_or, Contains-get_or, Err, IfOk, Ok, Result, LastOption, no_option, short_option, long_option, Tail, rest, pending, pending_in, rest_of}
 use Rattle.lexopt_options.proofs.Common.{refusal_reply, inl, inr, String, Global, string_bytes, IsWithin, counts, most, positional_count, parsed_item, count_append, joined, same_within, ReadsUpTo}
-use Rattle.lexopt_options.proofs.Common.{Stops, not_declared, unknown_option}
+use Rattle.lexopt_options.proofs.Common.{Stops, not_declared, unknown_option, step_line, position-Some, kind_at, Found, Refusal, RepliesWith, IsMistake, ReadsParsed, StopsAtOption, UndeclaredNext}
+use Rattle.lexopt_options.proofs.Common.{parsed_with}
 use Rattle.lexopt_spec.specs.Steps as steps
 use Rattle.lexopt_spec.specs.Runs as calls
 use Rattle.lexopt_line_spec.specs.Table as spec
 use Rattle.lexopt_line_spec.proofs.Bounds.{positional_falls, values_fall}
 use Rattle.lexopt_line_spec.proofs.ItemsRead.{one_more_item, option_given}
-use Rattle.lexopt_line_spec.proofs.RunAccounts.{step_line}
 use Rattle.lexopt_options_spec.specs.Nearest.{IsHint, IsHinted, ending, long_names}
-use Rattle.std.proofs.lemmas.List.Quantifiers.{position-Some}
 use Rattle.lexopt_options_spec.proofs.Tables.{kind_of_name}
-use Rattle.lexopt_options.specs.Kinds.{kind_at}
 use Rattle.lexopt_base.specs.Found.{found_as, advance_reply}
-use Rattle.lexopt_base.specs.declared.parser.Found.{Found}
 use Rattle.lexopt_base.specs.declared.parser.Found.TheVariants as found
-use Rattle.lexopt_base.specs.declared.refusal.Refusal.{Refusal}
 use Rattle.lexopt_base.specs.declared.refusal.Refusal.TheVariants as refused
 use Rattle.lexopt_line_spec.proofs.ReplyKinds.{next_reply}
-use Rattle.lexopt_base.specs.Replies.{RepliesWith}
 use Rattle.lexopt_options_spec.specs.Declaration.{Declaration, Declared, Positional, has_name, index_of, is_sound, table}
 use Rattle.lexopt_options_spec.specs.Legal as legal
 use Rattle.lexopt_options.specs.declared.mistake.Mistake.{Mistake}
-use Rattle.lexopt_options.specs.Mistakes.{IsMistake}
-use Rattle.lexopt_options.specs.Reading.{ReadsParsed, StopsAtOption, UndeclaredNext, parsed_with}
 
 pub option_item : (d : Declaration) (name : Name) (index : ℕ) (values : Values) → index_of d.options name ≡ Some index → parsed_item d.options (item_with name values) ≡ Some (parsed_with index values)
 option_item d name index (at_most_one value) found = ap (option_map (λ i. legal.option i value)) found
@@ -147,9 +140,8 @@ pub undeclared_long : (d : Declaration) (u v : UnreadLine) (text : List ℕ) →
 undeclared_long d u v text step is none = name_in v.last refl step
   where
     name_in : (last : LastOption) → v.last ≡ last → RepliesWith Next u (found_as last found.Long) v → UndeclaredNext d u None v
-    name_in no_option last step = absurd step
-    name_in (short_option c) last step = absurd step
     name_in (long_option n) last step = (n, last, step, subst (λ (m : List ℕ). index_of d.options (spec.long m) ≡ None) (is n last) none)
+    name_in other last step = absurd step
 
 -- the reading stops at it
 pub undeclared_stops : (d : Declaration) (u v : UnreadLine) (short : Option ℕ) → UndeclaredNext d u short v → (name : Name) × ((l : List legal.Parsed) → Stops d l u (unknown_option name v.tail))
@@ -214,9 +206,8 @@ count_more l count n s counted is = let e = count_append l (s ∷ []) in omega a
 
 pub count_small : (l : List legal.Parsed) → positional_count l ≤ length l
 count_small [] = omega arith
-count_small (legal.option i v ∷ l) = let rest = count_small l in omega arith
-count_small (legal.several i v ∷ l) = let rest = count_small l in omega arith
 count_small (legal.positional w ∷ l) = let rest = count_small l in omega arith
+count_small (s ∷ l) = let rest = count_small l in omega arith
 
 -- if one more positional is allowed, one is declared
 pub has_room : (ps : List Positional) (count : ℕ) → IsWithin (count + 1) (most ps) → 1 ≤ length ps

@@ -1,28 +1,17 @@
 -- What is read of a line that may have a rest, by keys.
-use Rattle.std.proofs.Common.{◌≡◌, ◌++◌, ℕ, List, [], ◌∷◌, length, None, Some, false, true, refl, sym, ap, subst, append_assoc, ◌∙◌, arith}
-use Rattle.std.proofs.lemmas.Bool.{false≢true}
-use Rattle.lexopt_spec.specs.UnreadLine.{UnreadLine}
-use Rattle.lexopt_line_spec.specs.Readings.{start}
+use Rattle.lexopt_options.proofs.Common.{◌≡◌, ◌++◌, ℕ, List, [], ◌∷◌, length, None, Some, false, true, refl, sym, ap, subst, append_assoc, ◌∙◌, arith, false≢true, UnreadLine, start, Means}
+use Rattle.lexopt_options.proofs.Common.{are_accepted, counts, most, front_says, says_once, Options, Line, declaration_of, asked_view, IsLineOf, IsLineRead, RestStart, Separated, Surplus}
 use Rattle.lexopt_options_spec.specs.Asking.{AskFor, asked_by, first_asked}
 use Rattle.lexopt_options_spec.specs.Declaration.{Asked, Declaration}
 use Rattle.lexopt_options_spec.specs.Legal as legal
-use Rattle.lexopt_options_spec.specs.Legal.{Means, are_accepted, counts, most}
 use Rattle.lexopt_options_spec.specs.Rest as rests
 use Rattle.lexopt_options_spec.specs.Rest.{HaveNoRest, IsSplit, MeansBefore, before_rest, without_rest}
 use Rattle.lexopt_options_spec.proofs.OneRest.{ended_alone, front_begins, last_open, mistaken, none_alone, one_rest, surplus_alone}
 use Rattle.lexopt_options_spec.proofs.Rests.{Starts, front_read}
-use Rattle.lexopt_options_spec.proofs.States.{front_says, says_once}
-use Rattle.lexopt_options.specs.declared.options.Options.{Options}
 use Rattle.lexopt_options.specs.declared.parsed.Parsed.{Parsed}
 use Rattle.lexopt_options.specs.declared.read.Ended.TheVariants as ended
-use Rattle.lexopt_options.specs.declared.refused.Line.{Line}
 use Rattle.lexopt_options.specs.declared.refused.Line.TheVariants as line
-use Rattle.lexopt_options.specs.Declarations.{declaration_of}
-use Rattle.lexopt_options.specs.Keys.{asked_view}
-use Rattle.lexopt_options.specs.Lines.{IsLineOf, IsLineRead}
 use Rattle.lexopt_options.specs.Reading.{HasEnded, HasRead}
-use Rattle.lexopt_options.specs.declared.rest.RestStart.{RestStart}
-use Rattle.lexopt_options.specs.declared.rest.RestStart.TheVariants.{Separated, Surplus}
 use Rattle.lexopt_options.specs.RestStarts.{begins_here, is_separated, start_view}
 use Rattle.lexopt_options.specs.RestLines.{IsEarly, IsRestOf, IsRestRead, by_all, by_front, early}
 use Rattle.lexopt_options.proofs.Beginnings.{separated_view}
@@ -80,17 +69,15 @@ none_ended o begins words count seen parsed v (u, had, next) = ended_alone (decl
 
 with_rest : {F V P M S : Type 0} (o : Options F V P M S) (l : List legal.Parsed) (rest others : List (List ℕ)) (read : Line F V P M S) → IsLineOf o l read → others ≡ rest → IsRestOf o l rest others read
 with_rest o l rest others (line.Parsed parsed) is same = (is, same)
-with_rest o l rest others (line.Asked asked) is same = is
-with_rest o l rest others (line.Refused refused) is same = is
+with_rest o l rest others read is same = is
 
 -- an option that asks for something is read before the separator
 asked_before : (d : Declaration) (words : List (List ℕ)) (asked : Asked) (is : AskFor d words asked) → is.there.ended ≡ false
 asked_before d words asked is = last_open d (start d.short_equals words) is.there is.before is.parsed tt is.read (no_positional is.parsed is.asks)
   where
     no_positional : (s : legal.Parsed) → asked_by d.options s ≡ Some asked → counts s ≡ 0
-    no_positional (legal.option i value) is = refl
-    no_positional (legal.several i values) is = refl
     no_positional (legal.positional word) is = absurd (let e : None ≡ Some asked = is in cc)
+    no_positional s is = refl
 
 early_read : {F V P M S : Type 0} (o : Options F V P M S) (words : List (List ℕ)) (read : Line F V P M S) → IsEarly o words read → IsLineRead o words read
 early_read o words (line.Parsed parsed) is = absurd is
@@ -103,16 +90,16 @@ early_of o words before word more l (line.Parsed parsed) split means is = absurd
 early_of o words before word more l (line.Asked asked) split means is =
     let d = declaration_of o in
     let later = front_begins d words before word more split (is.before ++ is.parsed ∷ []) is.there is.read (λ _. asked_before d words (asked_view asked) is) in
-    let same = says_once d before l split.l (front_says d before l means.front) split.says in
+    let same = says_once d before l split.l (front_says d before l means.whole.front) split.says in
     ap (first_asked d.options) (same ∙ later.1 ∙ append_assoc is.before (is.parsed ∷ []) later.0) ∙ asked_here d.options is.before later.0 is.parsed (asked_view asked) is.none_before is.asks
 early_of o words before word more l (line.Refused refused) split means (is, of_option) =
     let d = declaration_of o in
-    let same = says_once d before l split.l (front_says d before l means.front) split.says in
-    mistaken d words before word more split is.read is.stops.there is.why is.stops.read of_option is.stops.stops (λ index value _. subst (λ m. are_accepted d.options m ≡ true) same means.accepted)
+    let same = says_once d before l split.l (front_says d before l means.whole.front) split.says in
+    mistaken d words before word more split is.read is.stops.there is.why is.stops.read of_option is.stops.stops (λ index value _. subst (λ m. are_accepted d.options m ≡ true) same means.whole.accepted)
 
 pub rest_of : {F V P M S : Type 0} {begins : rests.RestStart} (o : Options F V P M S) (words others : List (List ℕ)) (read : Line F V P M S) → IsRestRead begins o words others read → (l : List legal.Parsed) (rest : List (List ℕ)) → MeansBefore begins (declaration_of o) words l rest
     → IsRestOf o l rest others read
-rest_of {begins = begins} o words (word ∷ more) read (by_front before word2 more2 read2 split is) l [] (without_rest alone means) = absurd (none_alone begins (declaration_of o) words l alone means.front before word2 more2 split)
+rest_of {begins = begins} o words (word ∷ more) read (by_front before word2 more2 read2 split is) l [] (without_rest alone means) = absurd (none_alone begins (declaration_of o) words l alone means.whole.front before word2 more2 split)
 rest_of o words (word ∷ more) read (by_front before word2 more2 read2 split is) l (other ∷ others) (before_rest before3 word3 more3 split3 means) =
     let same = one_rest (declaration_of o) words before before3 word2 word3 more2 more3 split split3 in
     with_rest o l (word3 ∷ more3) (word2 ∷ more2) read2 (line_of o before read2 is l (subst (λ ws. Means (declaration_of o) ws l) (sym same.0) means)) same.1

@@ -1,9 +1,15 @@
--- Which required options were read.
-use Rattle.std.proofs.Common.{◌≡◌, ◌<◌, ℕ, zero, suc, false, true, List, [], ◌∷◌, length, map, get_or, Option, Some, None, refl, subst, ap, arith}
+-- Which options were read on which the end of a line hangs.
+use Rattle.std.proofs.Common.{◌≡◌, ◌<◌, ◌==◌, ◌&&◌, ◌∙◌, ℕ, zero, suc, Bool, false, true, not, List, [], ◌∷◌, length, map, get_or, slice_get, Option, Some, None, refl, sym, subst, ap, arith}
+use Rattle.std.specs.Borrow.{Bor}
 use Rattle.std.specs.List.{list_any}
-use Rattle.std.specs.Option.{MatchOption}
-use Rattle.std.proofs.lemmas.Bool.{false≢true, or_parts}
-use Rattle.lexopt_options_spec.specs.Legal.{is_required}
+use Rattle.std.specs.Option.{MatchOption, is_some, option_map}
+use Rattle.std.proofs.lemmas.Bool.{false≢true, or_parts, or_right}
+use Rattle.std.proofs.lemmas.List.{length-map}
+use Rattle.lexopt_options_spec.specs.Declaration as spec
+use Rattle.lexopt_options_spec.specs.Declaration.{has}
+use Rattle.lexopt_options_spec.specs.Legal.{AreApart, Parsed, are_same, clash, exclude, exclusive_at, is_required, occurs}
+use Rattle.lexopt_options_spec.specs.Stops.{IsFirstClash}
+use Rattle.lexopt_options_spec.proofs.Apart.{none_past as none_declared, same_clash}
 use Rattle.lexopt_declaration.specs.Lookups.{names_at}
 use Rattle.lexopt_declaration.specs.Models.{long_name, option_view, short_name}
 use Rattle.lexopt_declaration.specs.declared.declaration.Declared.{Declared}
@@ -11,7 +17,7 @@ use Rattle.lexopt_declaration.specs.declared.declaration.Names.{Names}
 use Rattle.lexopt_options.specs.declared.options.Options.{Options}
 use Rattle.lexopt_options.specs.Declarations.{declaration_of, options_of}
 use Rattle.lexopt_options.specs.Mistakes.{AreNames}
-use Rattle.lexopt_options.specs.Reading.{AllSeen, IsFirstUnseen}
+use Rattle.lexopt_options.specs.Reading.{AllSeen, AreSeen, IsFirstUnseen, is_noted_at}
 use Rattle.lexopt_options.proofs.Accepted.{at_place, required_is, view_there}
 
 pub required_here : {F V M S : Type 0} (options : List (Declared F V M S)) (i : ℕ) (x : Declared F V M S) → i < length options → x ≡ get_or options i x → is_required (map option_view options) i ≡ x.required
@@ -23,13 +29,13 @@ required_within (o ∷ os) zero is = omega arith
 required_within (o ∷ os) (suc i) is = let rest = required_within os i is in omega (arith, rest)
 
 -- the names of the option at an index
-are_names : {F V M S : Type 0} (options : List (Declared F V M S)) (i : ℕ) (names : Names) → is_required (map option_view options) i ≡ true → names_at options (Some i) ≡ Some names → AreNames (map option_view options) i names
-are_names [] i names needed is = absurd (false≢true needed)
-are_names (o ∷ os) zero names needed is =
+are_names : {F V M S : Type 0} (options : List (Declared F V M S)) (i : ℕ) (names : Names) → names_at options (Some i) ≡ Some names → AreNames (map option_view options) i names
+are_names [] i names is = absurd (let e : None ≡ Some names = is in cc)
+are_names (o ∷ os) zero names is =
     let e : Some o.names ≡ Some names = is in
     let same : o.names ≡ names = cc in
     (option_view o, refl, ap short_name same, ap long_name same)
-are_names (o ∷ os) (suc i) names needed is = are_names os i names needed is
+are_names (o ∷ os) (suc i) names is = are_names os i names is
 
 -- if no option is required, none is missing
 pub none_required : {F V M S : Type 0} (options : List (Declared F V M S)) (i : ℕ) → list_any (λ o. o.required) options ≡ false → is_required (map option_view options) i ≡ false
@@ -43,4 +49,91 @@ pub missing_so : {F V P M S : Type 0} (o : Options F V P M S) (os : List (Declar
     → MatchOption r (AllSeen (declaration_of o).options seen) (λ names. (index : ℕ) × IsFirstUnseen (declaration_of o).options seen index × AreNames (declaration_of o).options index names)
 missing_so o os seen None is found = subst (λ qs. AllSeen (map option_view qs) seen) is found
 missing_so o os seen (Some names) is (index, first, at) =
-    (index, subst (λ qs. IsFirstUnseen (map option_view qs) seen index) is first, subst (λ qs. AreNames (map option_view qs) index names) is (are_names os index names first.here at))
+    (index, subst (λ qs. IsFirstUnseen (map option_view qs) seen index) is first, subst (λ qs. AreNames (map option_view qs) index names) is (are_names os index names at))
+
+-- ---- options that exclude each other
+
+exclusive_noted : (options : List spec.Declared) (i : ℕ) → is_some (exclusive_at options i) ≡ true → is_noted_at options i ≡ true
+exclusive_noted [] i is = absurd (false≢true is)
+exclusive_noted (o ∷ os) zero is = or_right o.required _ (or_right (is_some o.default) _ is)
+exclusive_noted (o ∷ os) (suc i) is = exclusive_noted os i is
+
+same_seen : (options : List spec.Declared) (l : List Parsed) (seen : List ℕ) → AreSeen options l seen → (i j : ℕ) → clash options (λ k. has k seen) i j ≡ clash options (λ k. occurs k l) i j
+same_seen options l seen are = same_clash options (λ k. has k seen) (λ k. occurs k l) (λ k some. are k (exclusive_noted options k some))
+
+pub apart_so : (options : List spec.Declared) (l : List Parsed) (seen : List ℕ) → AreSeen options l seen → AreApart options (λ k. has k seen) → AreApart options (λ k. occurs k l)
+apart_so options l seen are apart = λ i j. sym (same_seen options l seen are i j) ∙ apart i j
+
+pub clash_so : (options : List spec.Declared) (l : List Parsed) (seen : List ℕ) (i j : ℕ) → AreSeen options l seen → IsFirstClash options (λ k. has k seen) i j → IsFirstClash options (λ k. occurs k l) i j
+clash_so options l seen i j are clashes = record {
+  here = sym (same_seen options l seen are i j) ∙ clashes.here;
+  first = λ k m below. sym (same_seen options l seen are k m) ∙ clashes.first k m below;
+  nearest = λ m below. sym (same_seen options l seen are i m) ∙ clashes.nearest m below;
+}
+
+never : (b there : Bool) → ((b && false) && there) ≡ false
+never true there = refl
+never false there = refl
+
+-- whether two options at these indices exclude each other, and both are there
+pub clash_at : {F V M S : Type 0} (options : List (Declared F V M S)) (there : ℕ → Bool) (i j : ℕ) (o p : Declared F V M S) → slice_get options i ≡ Some o → slice_get options j ≡ Some p
+    → clash (map option_view options) there i j ≡ ((not (j == i) && are_same (option_map (λ own. own.now) o.exclusive) (option_map (λ own. own.now) p.exclusive)) && (there i && there j))
+clash_at options there i j o p at other_at = rw (view_there options i o at, view_there options j p other_at) refl
+
+pub itself_apart : (other same there : Bool) → other ≡ false → ((other && same) && there) ≡ false
+itself_apart other same there is = rw is refl
+
+pub text_apart : (other same there : Bool) → same ≡ false → ((other && same) && there) ≡ false
+text_apart other same there is = rw is (never other there)
+
+pub unseen_apart : (excludes here there : Bool) → there ≡ false → (excludes && (here && there)) ≡ false
+unseen_apart true true there is = is
+unseen_apart true false there is = refl
+unseen_apart false here there is = refl
+
+pub unread_apart : (excludes here there : Bool) → here ≡ false → (excludes && (here && there)) ≡ false
+unread_apart true here there is = rw is refl
+unread_apart false here there is = refl
+
+-- only options that are declared exclude each other
+pub none_past : {F V M S : Type 0} (options : List (Declared F V M S)) (there : ℕ → Bool) (i j : ℕ) → (i < length options → j < length options → clash (map option_view options) there i j ≡ false) → clash (map option_view options) there i j ≡ false
+none_past options there i j within =
+    none_declared (map option_view options) there i j (λ one other. within (subst (λ n. i < n) (length-map options option_view) one) (subst (λ n. j < n) (length-map options option_view) other))
+
+-- if no option has a text, none excludes another
+none_view : (text : Option (Bor (List ℕ))) → is_some text ≡ false → option_map (λ own. own.now) text ≡ None
+none_view None is = refl
+none_view (Some own) is = absurd (false≢true (sym is))
+
+no_text : {F V M S : Type 0} (options : List (Declared F V M S)) (i : ℕ) → list_any (λ o. is_some o.exclusive) options ≡ false → exclusive_at (map option_view options) i ≡ None
+no_text [] i none = refl
+no_text (o ∷ os) zero none = none_view o.exclusive (or_parts (is_some o.exclusive) (list_any (λ p. is_some p.exclusive) os) none).0
+no_text (o ∷ os) (suc i) none = no_text os i (or_parts (is_some o.exclusive) (list_any (λ p. is_some p.exclusive) os) none).1
+
+pub none_apart : {F V M S : Type 0} (options : List (Declared F V M S)) (there : ℕ → Bool) → list_any (λ o. is_some o.exclusive) options ≡ false → AreApart (map option_view options) there
+none_apart options there none = λ i j.
+    ap (λ text. (not (j == i) && are_same text (exclusive_at (map option_view options) j)) && (there i && there j)) (no_text options i none)
+    ∙ never (not (j == i)) (there i && there j)
+
+-- options that are not there exclude no other
+pub absent_apart : (options : List spec.Declared) → AreApart options (λ k. occurs k [])
+absent_apart options = λ i j. by (exclude options i j)
+  where
+    by : (b : Bool) → (b && false) ≡ false
+    by true = refl
+    by false = refl
+
+-- the first that exclude each other among the options of a declaration
+pub exclusive_so : {F V P M S : Type 0} (o : Options F V P M S) (os : List (Declared F V M S)) (seen : List ℕ) (r : Option (Names × Names)) → os ≡ options_of o
+    → MatchOption r (AreApart (map option_view os) (λ k. has k seen))
+    (λ both. (index : ℕ) × (other : ℕ) × IsFirstClash (map option_view os) (λ k. has k seen) index other × (names_at os (Some index) ≡ Some both.0) × (names_at os (Some other) ≡ Some both.1))
+    → MatchOption r (AreApart (declaration_of o).options (λ k. has k seen))
+    (λ both. (index : ℕ) × (other : ℕ) × IsFirstClash (declaration_of o).options (λ k. has k seen) index other × AreNames (declaration_of o).options index both.0 × AreNames (declaration_of o).options other both.1)
+exclusive_so o os seen None is found = subst (λ qs. AreApart (map option_view qs) (λ k. has k seen)) is found
+exclusive_so o os seen (Some both) is (index, other, clashes, at, other_at) = (
+  index,
+  other,
+  subst (λ qs. IsFirstClash (map option_view qs) (λ k. has k seen) index other) is clashes,
+  subst (λ qs. AreNames (map option_view qs) index both.0) is (are_names os index both.0 at),
+  subst (λ qs. AreNames (map option_view qs) other both.1) is (are_names os other both.1 other_at),
+)

@@ -3,21 +3,17 @@ use Rattle.lexopt_options.proofs.Common.{Result, Ok, Err, IfOk, MatchOption, ◌
 use Rattle.lexopt_options.proofs.Common.{filter, Option, Some, None, slice_get, cond, refl, sym, ap, subst, ◌∙◌, ◌++◌, ⊎_elim, arith, Contains, list_any, Contains-append_cases, Contains-append_left}
 use Rattle.lexopt_options.proofs.Common.{Contains-append_right, option_eq, cases_lt, eq-eqb, eqb-true, false≢true, or_parts, drop_all, drop_more, slice_get_cases, declaration_of, AreOwners}
 use Rattle.lexopt_options.proofs.Common.{CanBeTaken, CanOwn, IsAscending, IsWithin, most, positional_words, AreShares, AreTaken, ArePlaces, IsNotTaken, greedy, least, owners, refused_word, takes_at}
-use Rattle.lexopt_options.proofs.Common.{greedy_are_shares, places_are, some_places, places_spare, refused_take, slice_get_take, positional_view, words_view, Declared, Positional}
-use Rattle.lexopt_options.specs.declared.options.Options.{Options}
+use Rattle.lexopt_options.proofs.Common.{greedy_are_shares, places_are, some_places, places_spare, refused_take, slice_get_take, positional_view, words_view, Declared, Positional, Options, Words}
+use Rattle.lexopt_options.proofs.Common.{AllocError, IsMistake, AreParsedAs, parsed_words}
 use Rattle.lexopt_options_spec.specs.Declaration as spec
 use Rattle.lexopt_options_spec.specs.Legal as legal
 use Rattle.lexopt_options.proofs.Owners.{owner_within, places_some}
-use Rattle.lexopt_declaration.specs.declared.declaration.Words.{Words}
 use Rattle.lexopt_declaration.specs.declared.declaration.Words.TheVariants as words
 use Rattle.lexopt_options.specs.declared.parsed.Parsed.{Parsed}
 use Rattle.lexopt_options.specs.declared.parsed.Parsed.TheVariants as parsed
 use Rattle.lexopt_options.specs.declared.mistake.Mistake.{Mistake}
-use Rattle.std.specs.declared.alloc.AllocError.{AllocError}
 use Rattle.lexopt_options_spec.specs.Stops as stops
-use Rattle.lexopt_options.specs.Mistakes.{IsMistake}
 use Rattle.lexopt_options.specs.Keys as keys
-use Rattle.lexopt_options.specs.Keys.{AreParsedAs, parsed_words}
 use Rattle.lexopt_options.specs.Taken as taken
 use Rattle.lexopt_options.specs.Taken.{CanSpare, Fits, has_list}
 

@@ -1,53 +1,27 @@
 -- What the reading of a whole line means.
-use Rattle.std.proofs.Common.{append-nil, append_assoc, ◌≡◌, ◌≤◌, ◌<◌, ◌-◌, ℕ, suc, length, take, arith, true, false, List, [], ◌∷◌, ◌++◌, refl, sym, ap, subst, ◌∙◌}
-use Rattle.std.specs.List.{list_any}
-use Rattle.std.specs.Option.{is_some}
-use Rattle.std.proofs.lemmas.Bool.{false≢true}
-use Rattle.lexopt_spec.specs.UnreadLine.{UnreadLine}
+use Rattle.lexopt_options.proofs.Common.{append_assoc, ◌≡◌, ◌≤◌, ◌<◌, ◌-◌, ℕ, suc, length, take, arith, true, false, List, [], ◌∷◌, ◌++◌, refl, sym, ap, subst, ◌∙◌, list_any, is_some, false≢true}
+use Rattle.lexopt_options.proofs.Common.{UnreadLine, Next, start, Declaration, is_sound, Means, MeansFront, are_accepted, most, positional_count, positional_words, AreTaken, IsNotTaken, least}
+use Rattle.lexopt_options.proofs.Common.{some_places, all_but_last, first_asked, ReadsUpTo, Stops, required_placeholder, Bor, Names, Options, Line, declaration_of, options_of, positionals_of}
+use Rattle.lexopt_options.proofs.Common.{AreParsedAs, asked_view, IsLineOf, IsLineRead, LineMeans, AreNames, IsMistake, has_list}
 use Rattle.lexopt_spec.specs.Steps as steps
-use Rattle.lexopt_spec.specs.Steps.{Next}
-use Rattle.lexopt_line_spec.specs.Readings.{IsReading, start}
 use Rattle.lexopt_line_spec.specs.Spelling as spelling
-use Rattle.lexopt_line_spec.proofs.ItemsRead.{says_items}
-use Rattle.lexopt_line_spec.proofs.ReadingSteps.{reads_last}
-use Rattle.lexopt_options_spec.specs.Declaration.{Declaration, is_sound, table}
+use Rattle.lexopt_options_spec.specs.Declaration.{has}
 use Rattle.lexopt_options_spec.specs.Legal as legal
-use Rattle.lexopt_options_spec.specs.Legal.{Means, MeansFront, are_accepted, most, positional_count, positional_words}
-use Rattle.lexopt_options_spec.specs.Places.{AreTaken, IsNotTaken, least}
-use Rattle.lexopt_options_spec.proofs.Shares.{some_places}
 use Rattle.lexopt_options_spec.proofs.Taken.{words_count, zero_within}
 use Rattle.lexopt_options_spec.specs.Stops as stops
-use Rattle.lexopt_options_spec.specs.Asking.{all_but_last, first_asked}
-use Rattle.lexopt_options_spec.specs.Stops.{ReadsUpTo, Stops, required_placeholder}
-use Rattle.lexopt_options_spec.proofs.Fronts.{front_later, front_parsed, nothing_parsed, one_front}
-use Rattle.std.specs.Borrow.{Bor}
-use Rattle.lexopt_declaration.specs.declared.declaration.Names.{Names}
+use Rattle.lexopt_options_spec.specs.Stops.{IsFirstClash}
+use Rattle.lexopt_options_spec.proofs.Fronts.{front_later, nothing_parsed, one_front, whole_front}
 use Rattle.lexopt_options.specs.declared.mistake.Mistake.{Mistake}
 use Rattle.lexopt_options.specs.declared.mistake.Mistake.TheVariants as mistake
-use Rattle.lexopt_options.specs.declared.options.Options.{Options}
-use Rattle.lexopt_options.specs.declared.refused.Line.{Line}
 use Rattle.lexopt_options.specs.declared.refused.Line.TheVariants as line
 use Rattle.lexopt_declaration.specs.declared.declaration.Declared as declared
-use Rattle.lexopt_options.specs.Declarations.{declaration_of, options_of, positionals_of}
 use Rattle.lexopt_options.specs.declared.parsed.Parsed.{Parsed}
-use Rattle.lexopt_options.specs.Keys.{AreParsedAs, asked_view}
 use Rattle.lexopt_options.proofs.Keys.{asked_here}
-use Rattle.lexopt_options.specs.Lines.{IsLineOf, IsLineRead, LineMeans}
-use Rattle.lexopt_options.specs.Mistakes.{AreNames, IsMistake}
 use Rattle.lexopt_options.specs.Reading.{AreSeen, IsFirstUnseen, IsRight, IsWrong}
-use Rattle.lexopt_options.specs.Taken.{has_list}
+use Rattle.lexopt_options.specs.Reading.{AllSeen}
 use Rattle.lexopt_options.proofs.Defaults.{as_read, required_noted}
-use Rattle.lexopt_options.proofs.Seen.{none_required}
+use Rattle.lexopt_options.proofs.Seen.{absent_apart, apart_so, clash_so, none_required}
 use Rattle.lexopt_options.proofs.TakenWords.{all_taken}
-
--- words that are read to the end of the line mean what was read
-pub front : (d : Declaration) (words : List (List ℕ)) (l : List legal.Parsed) (v w : UnreadLine) → is_sound d.options ≡ true → ReadsUpTo d (start d.short_equals words) l v → Next v steps.end w
-    → MeansFront d words l
-front d words l v w sound read ends =
-    front_parsed d sound words read.items l
-    (subst (IsReading (table d.options) (start d.short_equals words) steps.end) (append-nil read.items)
-    (says_items (table d.options) (start d.short_equals words) v read.items read.read steps.end [] (reads_last (table d.options) v w steps.end tt ends)))
-    read.parsed read.within
 
 counted_so : (d : Declaration) (l : List legal.Parsed) (words : List (List ℕ)) → positional_words l ≡ words → positional_count l ≡ length words
 counted_so d l words is = sym (words_count l) ∙ ap length is
@@ -55,11 +29,14 @@ counted_so d l words is = sym (words_count l) ∙ ap length is
 pub line_parsed : (d : Declaration) (words : List (List ℕ)) (l : List legal.Parsed) (v w : UnreadLine) (own : List (List ℕ)) (seen : List ℕ) → is_sound d.options ≡ true
     → ReadsUpTo d (start d.short_equals words) l v → positional_words l ≡ own → AreSeen d.options l seen → Next v steps.end w → IsRight d own seen → are_accepted d.options l ≡ true → Means d words l
 line_parsed d words l v w own seen sound read words_are are_seen ends right accepted = record {
-  front = front d words l v w sound read ends;
-  enough = subst (λ n. least d.positionals ≤ n) (sym (counted_so d l own words_are)) right.enough;
-  complete = λ i is. sym (are_seen i (required_noted d.options i is)) ∙ right.all i is;
-  accepted = accepted;
-  taken = subst (AreTaken d.positionals) (sym words_are) right.taken;
+  whole = record {
+    front = whole_front d words l v w sound read ends;
+    enough = subst (λ n. least d.positionals ≤ n) (sym (counted_so d l own words_are)) right.enough;
+    complete = λ i is. sym (are_seen i (required_noted d.options i is)) ∙ right.all i is;
+    accepted = accepted;
+    taken = subst (AreTaken d.positionals) (sym words_are) right.taken;
+  };
+  apart = apart_so d.options l seen are_seen right.apart;
 }
 
 -- no words mean the empty list, if nothing has to be in a line and no option has a default
@@ -73,11 +50,14 @@ no_words o parsed none few lists required defaults =
     subst (LineMeans o []) (sym none) (
       [],
       record {
-        front = record { items = []; spelled = spelling.no_words; parsed = refl; within = within };
-        enough = few;
-        complete = λ i is. absurd (false≢true (sym (none_required (options_of o) i required) ∙ is));
-        accepted = refl;
-        taken = all_taken (positionals_of o) [] lists within;
+        whole = record {
+          front = record { items = []; spelled = spelling.no_words; parsed = refl; within = within };
+          enough = few;
+          complete = λ i is. absurd (false≢true (sym (none_required (options_of o) i required) ∙ is));
+          accepted = refl;
+          taken = all_taken (positionals_of o) [] lists within;
+        };
+        apart = absent_apart d.options;
       },
       refl,
       as_read (options_of o) [] [] defaults tt,
@@ -123,34 +103,44 @@ lacks_option d words seen names index enough taken first are_names = record {
       (record { here = first.here; absent = sym (are_seen index (required_noted d.options index first.here)) ∙ first.absent; first = λ i below needed. sym (are_seen i (required_noted d.options i needed)) ∙ first.first i below needed });
 }
 
+-- two options exclude each other
+pub excludes_option : (d : Declaration) (words : List (List ℕ)) (seen : List ℕ) (names others : Names) (index other : ℕ) → least d.positionals ≤ length words → AreTaken d.positionals words → AllSeen d.options seen
+    → IsFirstClash d.options (λ i. has i seen) index other → AreNames d.options index names → AreNames d.options other others → IsWrong d words seen (mistake.Exclusive names others)
+excludes_option d words seen names others index other enough taken all clashes are_names others_are = record {
+  why = stops.exclusive_options index other;
+  told = (index, other, refl, are_names, others_are);
+  kept = λ l. refl;
+  stops = λ u v l step words_are are_seen.
+      stops.not_apart index other v step (subst (λ n. least d.positionals ≤ n) (sym (counted_so d l words words_are)) enough)
+      (subst (AreTaken d.positionals) (sym words_are) taken)
+      (λ i needed. sym (are_seen i (required_noted d.options i needed)) ∙ all i needed)
+      (clash_so d.options l seen index other are_seen clashes);
+}
+
 -- ---- what was read before a mistake
 
 pub last_dropped : (l : List legal.Parsed) (s : legal.Parsed) → all_but_last (l ++ s ∷ []) ≡ l
-last_dropped [] s = refl
-last_dropped (x ∷ []) s = refl
 last_dropped (x ∷ y ∷ l) s = ap (λ m. x ∷ m) (last_dropped (y ∷ l) s)
+last_dropped l s = refl
 
 pub kept_parsed : {F V P M S : Type 0} (options : List (declared.Declared F V M S)) (l : List legal.Parsed) (xs : List (Parsed F V P M S)) (n : ℕ) → n ≡ length xs - 1 → AreParsedAs options l xs
     → AreParsedAs options (all_but_last l) (take n xs)
 kept_parsed options [] [] n is are = rw is tt
-kept_parsed options [] (x ∷ xs) n is are = absurd are
-kept_parsed options (s ∷ l) [] n is are = absurd are
 kept_parsed options (s ∷ []) (x ∷ []) n is are = rw is tt
-kept_parsed options (s ∷ []) (x ∷ y ∷ xs) n is are = absurd are.1
-kept_parsed options (s ∷ t ∷ l) (x ∷ []) n is are = absurd are.1
 kept_parsed options (s ∷ t ∷ l) (x ∷ y ∷ xs) n is are =
     let e : n ≡ suc (length xs) = omega (arith, is) in
     subst (λ k. AreParsedAs options (all_but_last (s ∷ t ∷ l)) (take k (x ∷ y ∷ xs))) (sym e)
     (are.0, kept_parsed options (t ∷ l) (y ∷ xs) (length xs) (omega arith) are.1)
+kept_parsed options l xs n is are = search
 
 -- ---- the result of reading a line
 
 -- a line that is read is of the list that its words mean
 pub line_of : {F V P M S : Type 0} (o : Options F V P M S) (words : List (List ℕ)) (line : Line F V P M S) → IsLineRead o words line → (l : List legal.Parsed) → Means (declaration_of o) words l → IsLineOf o l line
 line_of o words (line.Parsed parsed) (m, other, none, are, keys) l means =
-    subst (λ (x : List legal.Parsed). IsLineOf o x (line.Parsed parsed)) (one_front (declaration_of o) words m l other.front means.front) (none, are, keys)
+    subst (λ (x : List legal.Parsed). IsLineOf o x (line.Parsed parsed)) (one_front (declaration_of o) words m l other.whole.front means.whole.front) (none, are, keys)
 line_of o words (line.Asked asked) read l means =
-    let later = front_later (declaration_of o) words (read.before ++ read.parsed ∷ []) read.there read.read l means.front in
+    let later = front_later (declaration_of o) words (read.before ++ read.parsed ∷ []) read.there read.read l means.whole.front in
     ap (first_asked (declaration_of o).options) (later.1 ∙ append_assoc read.before (read.parsed ∷ []) later.0)
     ∙ asked_here (declaration_of o).options read.before later.0 read.parsed (asked_view asked) read.none_before read.asks
 line_of o words (line.Refused refused) read l means = absurd (nothing_parsed (declaration_of o) words read.read read.why read.stops l means)

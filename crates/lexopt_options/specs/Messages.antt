@@ -11,7 +11,7 @@ use Rattle.lexopt_options.specs.declared.mistake.Mistake.TheVariants.{InvalidArg
 use Rattle.lexopt_options.specs.declared.mistake.Mistake.TheVariants.{UnexpectedArgument}
 use Rattle.lexopt_options.specs.declared.mistake.Mistake.TheVariants.{MissingArgument, MissingOption}
 use Rattle.lexopt_options.specs.declared.mistake.Mistake.TheVariants.{MissingCommand, UnknownCommand}
-use Rattle.lexopt_options.specs.declared.mistake.Mistake.TheVariants.{InvalidVariable}
+use Rattle.lexopt_options.specs.declared.mistake.Mistake.TheVariants.{Exclusive, InvalidVariable}
 use Rattle.lexopt_options.specs.declared.mistake.OptionName.{OptionName}
 use Rattle.lexopt_options.specs.declared.mistake.OptionName.TheVariants.{Short, Long}
 
@@ -37,6 +37,8 @@ message (InvalidArgument placeholder word values) = codes "invalid argument " ++
     ++ (codes " for " ++ (escaped_text placeholder.now
     ++ (codes ": one of " ++ list_text (map (λ own. escaped_text own.now) values.now)))))
 message (MissingOption names) = codes "missing option '" ++ (names_text names ++ codes "'")
+message (Exclusive names others) = codes "options '" ++ (names_text names
+    ++ (codes "' and '" ++ (names_text others ++ codes "' cannot be used together")))
 message (MissingCommand names) =
     codes "missing command: one of " ++ list_text (map (λ name. escaped_text name.now) names.items)
 message (UnknownCommand word rest hints) = codes "unknown command " ++ (visible word

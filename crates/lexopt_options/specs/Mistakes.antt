@@ -16,7 +16,7 @@ use Rattle.lexopt_options.specs.declared.mistake.Mistake.TheVariants.{InvalidArg
 use Rattle.lexopt_options.specs.declared.mistake.Mistake.TheVariants.{UnexpectedArgument}
 use Rattle.lexopt_options.specs.declared.mistake.Mistake.TheVariants.{MissingArgument, MissingOption}
 use Rattle.lexopt_options.specs.declared.mistake.Mistake.TheVariants.{MissingCommand, UnknownCommand}
-use Rattle.lexopt_options.specs.declared.mistake.Mistake.TheVariants.{InvalidVariable}
+use Rattle.lexopt_options.specs.declared.mistake.Mistake.TheVariants.{Exclusive, InvalidVariable}
 
 -- the option at this index has these names
 abbrev pub AreNames : List Declared → ℕ → Names → Type 0
@@ -55,6 +55,9 @@ IsMistake d (MissingArgument placeholder) m = (count : ℕ) × (m ≡ stops.miss
     × (placeholder.now ≡ required_placeholder d.positionals count)
 IsMistake d (MissingOption names) m = (index : ℕ) × (m ≡ stops.missing_option index)
     × AreNames d.options index names
+IsMistake d (Exclusive names others) m = (index : ℕ) × (other : ℕ)
+    × (m ≡ stops.exclusive_options index other) × AreNames d.options index names
+    × AreNames d.options other others
 IsMistake d (MissingCommand names) m = ⊥
 IsMistake d (UnknownCommand word rest hints) m = ⊥
 IsMistake d (InvalidVariable name) m = ⊥

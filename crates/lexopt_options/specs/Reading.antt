@@ -15,7 +15,7 @@ use Rattle.lexopt_options_spec.specs.Declaration as declared
 use Rattle.lexopt_options_spec.specs.Declaration.{Declaration, has, index_of}
 use Rattle.lexopt_options_spec.specs.Completion.{IsOption}
 use Rattle.lexopt_options_spec.specs.Legal as spec
-use Rattle.lexopt_options_spec.specs.Legal.{IsWithin, are_accepted, counts, is_required, most, occurs}
+use Rattle.lexopt_options_spec.specs.Legal.{AreApart, IsWithin, are_accepted, counts, is_required, most, occurs}
 use Rattle.lexopt_options_spec.specs.Legal.{positional_count, positional_words, refused_value, parsed_item}
 use Rattle.lexopt_options_spec.specs.Places.{AreTaken, least}
 use Rattle.lexopt_options_spec.specs.Stops as stops
@@ -91,33 +91,34 @@ pub record IsFirstUnseen (options : List declared.Declared) (seen : List ℕ) (i
   pub absent : has index seen ≡ false
   pub first : (i : ℕ) → i < index → is_required options i ≡ true → has i seen ≡ true
 
--- the option is required or has a default, so the end of a line hangs on whether the line has it
+-- the option is required, has a default or may be excluded, so the end of a line hangs on whether
+-- the line has it
 abbrev pub is_noted : declared.Declared → Bool
-is_noted o = o.required || is_some o.default
+is_noted o = o.required || (is_some o.default || is_some o.exclusive)
 
 -- the same for the option at this index, if there is one
 abbrev pub is_noted_at : List declared.Declared → ℕ → Bool
 is_noted_at options i = unwrap_or (option_map is_noted (slice_get options i)) false
 
--- an option that is required or has a default is among these indices if and only if it occurs in the
--- list
+-- such an option is among these indices if and only if it occurs in the list
 abbrev pub AreSeen : List declared.Declared → List spec.Parsed → List ℕ → Type 0
 AreSeen options l seen = (i : ℕ) → is_noted_at options i ≡ true → has i seen ≡ occurs i l
 
--- these indices, and then this one if its option is required or has a default
+-- these indices, and then this one if its option is such an option
 abbrev pub noted : Bool → ℕ → List ℕ → List ℕ
 noted true index seen = seen ++ index ∷ []
 noted false index seen = seen
 
--- at the end of a line with these positionals and these required options, nothing is missing, and
--- each word is accepted
+-- at the end of a line with these positionals and these options, nothing is missing, each word is
+-- accepted, and no two options exclude each other
 pub record IsRight (d : Declaration) (words : List (List ℕ)) (seen : List ℕ) : Type 0 where
   pub enough : least d.positionals ≤ length words
   pub taken : AreTaken d.positionals words
   pub all : AllSeen d.options seen
+  pub apart : AreApart d.options (λ i. has i seen)
 
--- at the end of a line with these positionals and these required options, something is missing or a
--- word is not accepted, which is this mistake
+-- at the end of a line with these positionals and these options, something is missing, a word is not
+-- accepted, or two options exclude each other, which is this mistake
 pub record IsWrong (d : Declaration) (words : List (List ℕ)) (seen : List ℕ) (mistake : Mistake)
     : Type 0 where
   pub why : stops.Mistake

@@ -522,11 +522,11 @@ impl<'a, F, V, P, M, S> Options<'a, F, V, P, M, S> {
         typed: &OsString,
     ) -> Result<Completion<'a, F, V, M, S>, AllocError>
         // This is exactly what can come there: the spellings of declared options that begin with
-        // what was typed, and after which some words make a legal line where that option occurs, if
-        // they are own names of options that are not hidden or were typed whole; what each longer
-        // word is that begins so and is not an option, and to which positionals it can belong; the
-        // option whose value is typed in the word; and the values in the lists of these that begin
-        // with what was typed.
+        // what was typed, and after which some words make a legal line where that option occurs,
+        // whether or not options of it exclude each other, if they are own names of options that are
+        // not hidden or were typed whole; what each longer word is that begins so and is not an
+        // option, and to which positionals it can belong; the option whose value is typed in the
+        // word; and the values in the lists of these that begin with what was typed.
         ensures { IfOk result (λ completion.
             IsCompletion self.now words.items typed.now completion) }
     {

@@ -47,6 +47,8 @@ pub const NO_ALIASES: &[Names<'static>] = &[];
 /// - `.required()` makes it an option that every line has to have.
 /// - `.default("4")` gives an option of one value, which is not required, the value that it has where
 ///   a line does not have it.
+/// - `.exclusive("format")` puts it into the exclusive group of this name: a line has at most one of
+///   the options of a group. It cannot be required.
 /// - `.alias(Names::Long("colour"))` gives it further names, which lines may have like its own. The
 ///   help, messages and hints show its own names only, and shells offer these only where they are
 ///   typed whole. Several of these may follow.
@@ -169,11 +171,12 @@ macro_rules! declare {
             names: $names,
             kind: $kind,
             help: $help,
-            details: $crate::declare!(@details "", $(.$mark $marked)*),
-            heading: $crate::declare!(@heading "", $(.$mark $marked)*),
+            details: $crate::declare!(@details None, $(.$mark $marked)*),
+            heading: $crate::declare!(@heading None, $(.$mark $marked)*),
             hidden: false $(|| $crate::declare!(@is_hidden $mark))*,
             required: false $(|| $crate::declare!(@is_required $mark))*,
             default: $crate::declare!(@default None, $(.$mark $marked)*),
+            exclusive: $crate::declare!(@exclusive None, $(.$mark $marked)*),
             words: $crate::declare!(@option_words $crate::Words::Files, $(.$mark $marked)*),
             hides_list: false $(|| $crate::declare!(@hides_list $mark))*,
             aliases: $crate::declare!(@aliases [] $(.$mark $marked)*),
@@ -188,14 +191,14 @@ macro_rules! declare {
     (@hides_list $mark:ident) => { false };
     (@heading $heading:expr,) => { $heading };
     (@heading $heading:expr, .heading($given:expr $(,)?) $($mark:tt)*) => {
-        $crate::declare!(@heading $given, $($mark)*)
+        $crate::declare!(@heading Some($given), $($mark)*)
     };
     (@heading $heading:expr, .$mark:ident $marked:tt $($marks:tt)*) => {
         $crate::declare!(@heading $heading, $($marks)*)
     };
     (@details $details:expr,) => { $details };
     (@details $details:expr, .details($given:expr $(,)?) $($mark:tt)*) => {
-        $crate::declare!(@details $given, $($mark)*)
+        $crate::declare!(@details Some($given), $($mark)*)
     };
     (@details $details:expr, .$mark:ident $marked:tt $($marks:tt)*) => {
         $crate::declare!(@details $details, $($marks)*)
@@ -206,6 +209,13 @@ macro_rules! declare {
     };
     (@default $default:expr, .$mark:ident $marked:tt $($marks:tt)*) => {
         $crate::declare!(@default $default, $($marks)*)
+    };
+    (@exclusive $exclusive:expr,) => { $exclusive };
+    (@exclusive $exclusive:expr, .exclusive($given:expr $(,)?) $($mark:tt)*) => {
+        $crate::declare!(@exclusive Some($given), $($mark)*)
+    };
+    (@exclusive $exclusive:expr, .$mark:ident $marked:tt $($marks:tt)*) => {
+        $crate::declare!(@exclusive $exclusive, $($marks)*)
     };
     (@beside $beside:expr,) => { $beside };
     (@beside $beside:expr, .with_flag($given:expr $(,)?) $($mark:tt)*) => {
@@ -239,6 +249,9 @@ macro_rules! declare {
         $crate::declare!(@option_words $words, $($mark)*)
     };
     (@option_words $words:expr, .default $marked:tt $($mark:tt)*) => {
+        $crate::declare!(@option_words $words, $($mark)*)
+    };
+    (@option_words $words:expr, .exclusive $marked:tt $($mark:tt)*) => {
         $crate::declare!(@option_words $words, $($mark)*)
     };
     (@option_words $words:expr, .with_flag $marked:tt $($mark:tt)*) => {

@@ -154,11 +154,12 @@
 //!   to [`Options::parse_value`] are also `PartialEq`.
 //! - [`declare!`](crate::declare) lists what a line of the declaration can be. `.required()` is for
 //!   an option that each line must have, `.default("4")` for the value of one that a line does not
-//!   have, `.one_of(&["fast", "slow"])` for values in a list, `.hidden()` for an option that the
-//!   help leaves out and whose names hints do not have, and `.alias(Names::Long("colour"))` for a
-//!   further name, which only lines have. Shells offer both only where they are typed whole. For
-//!   values and positionals shells offer the names of files; after `.directories()` those of
-//!   directories, and after `.text()` nothing.
+//!   have, `.exclusive("format")` for options of which a line has at most one,
+//!   `.one_of(&["fast", "slow"])` for values in a list, `.hidden()` for an option that the help
+//!   leaves out and whose names hints do not have, and `.alias(Names::Long("colour"))` for a further
+//!   name, which only lines have. Shells offer both only where they are typed whole. For values and
+//!   positionals shells offer the names of files; after `.directories()` those of directories, and
+//!   after `.text()` nothing.
 //!
 //! # What to call
 //!

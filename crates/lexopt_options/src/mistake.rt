@@ -110,6 +110,10 @@ pub enum Mistake<'a> {
     /// declaration. In a whole line, no positional is missing then, and each accepts its words;
     /// `read_leading` of `lexopt_commands` ignores the positionals.
     MissingOption(Names<'a>),
+    /// Two options exclude each other: the names of the first option of the line, in the order of the
+    /// declaration, that another of the line excludes, and those of the first such other. No option
+    /// is missing then.
+    Exclusive(Names<'a>, Names<'a>),
     /// No word comes after the general options, where the name of a command has to be. These are
     /// all declared names, those that ask for the help among them. Only a line of a program with
     /// commands (`Commands` of `lexopt_commands`) has this mistake.
@@ -190,6 +194,12 @@ impl fmt::Display for Mistake<'_> {
                 )
             }
             Mistake::MissingOption(names) => write!(f, "missing option '{names}'"),
+            Mistake::Exclusive(names, others) => {
+                write!(
+                    f,
+                    "options '{names}' and '{others}' cannot be used together"
+                )
+            }
             Mistake::MissingCommand(names) => {
                 let names = Listed(names);
                 write!(f, "missing command: one of {names}")

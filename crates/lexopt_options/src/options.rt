@@ -30,6 +30,7 @@ pub struct Options<'a, F, V = Infallible, P = Infallible, M = Infallible, S = In
     has_lists: bool,
     has_required: bool,
     has_defaults: bool,
+    has_exclusive: bool,
     ghost sound: { is_sound (map option_view declaration.now.options.now) ≡ true },
     ghost clear: { are_clear (map positional_view declaration.now.positionals.now) ≡ true },
     ghost listable: { are_listable (map positional_view declaration.now.positionals.now) ≡ true },
@@ -41,6 +42,8 @@ pub struct Options<'a, F, V = Infallible, P = Infallible, M = Infallible, S = In
         ≡ list_any (λ o. o.required) declaration.now.options.now },
     ghost defaults: { has_defaults
         ≡ list_any (λ o. is_some o.default) declaration.now.options.now },
+    ghost exclusive: { has_exclusive
+        ≡ list_any (λ o. is_some o.exclusive) declaration.now.options.now },
 }
 
 // Whether this option is required.
@@ -71,6 +74,20 @@ fn any_has_default<F, V, M, S>(options: &[Declared<'_, F, V, M, S>]) -> bool
     options.iter().any(|option| has_default(option))
 }
 
+// Whether other options may exclude this one.
+fn is_exclusive<F, V, M, S>(option: &Declared<'_, F, V, M, S>) -> bool
+    ensures { result ≡ is_some option.now.exclusive }
+{
+    option.exclusive.is_some()
+}
+
+// Whether other options may exclude one of these.
+fn any_is_exclusive<F, V, M, S>(options: &[Declared<'_, F, V, M, S>]) -> bool
+    ensures { result ≡ list_any (λ o. is_some o.exclusive) options.now }
+{
+    options.iter().any(|option| is_exclusive(option))
+}
+
 // Makes `Options` of a declaration that can be declared. It is not inlined, so that the loops of
 // `try_options`, which check each option before it, keep their registers.
 #[inline(never)]
@@ -91,6 +108,7 @@ fn checked<'a, F, V, P, M, S>(
         has_lists: any_has_list(declaration.positionals),
         has_required: any_is_required(declaration.options),
         has_defaults: any_has_default(declaration.options),
+        has_exclusive: any_is_exclusive(declaration.options),
     }
 }
 
@@ -173,6 +191,7 @@ impl<'a, F, V, P, M, S> Options<'a, F, V, P, M, S> {
             has_lists: self.has_lists,
             has_required: self.has_required,
             has_defaults: self.has_defaults,
+            has_exclusive: self.has_exclusive,
         }
     }
 
@@ -270,14 +289,22 @@ impl<'a, F, V, P, M, S> Options<'a, F, V, P, M, S> {
         self.has_defaults
     }
 
+    // Whether other options may exclude one of the options.
+    pub(crate) fn has_exclusive(&self) -> bool
+        ensures { result ≡ list_any (λ o. is_some o.exclusive) (options_of self.now) }
+    {
+        self.has_exclusive
+    }
+
     /// Returns the usage, wrapped to `width` columns: a line, or several, each with a line feed at
     /// its end.
     ///
-    /// The usage line has the name of the program; `[OPTION]...` if an option that is neither
-    /// hidden nor required is declared; each required option that is not hidden, by its long name
-    /// if it has one, with its value; and each positional by its placeholder: `FILE` if it is
-    /// required, `[FILE]` if it may be left out, `[FILE]...` for any number, `FILE...` for at least
-    /// one.
+    /// The usage line has the name of the program; `[OPTION]...` if an option is declared that is
+    /// not hidden and has no place of its own; `[--json | --xml]` for options that exclude each other
+    /// and are not hidden; each required option that is not hidden; and each positional by its
+    /// placeholder: `FILE` if it is required, `[FILE]` if it may be left out, `[FILE]...` for any
+    /// number, `FILE...` for at least one. Options are there by their long name if they have one, with
+    /// their value.
     ///
     /// If the declaration has texts for the usage, it has a usage line for each of them instead,
     /// with the name and the words of the text. Each but the first begins with `  or:  ` in place

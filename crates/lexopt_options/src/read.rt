@@ -1,5 +1,5 @@
 //! Reads a whole line by a declaration. `rest.rt` reads a line whose rest is not read.
-ghost use Rattle.std.specs.Prelude.{◌≡◌, ◌≢◌, ◌≤◌, ◌↔◌, ◌++◌, ℕ, List, IfOk, OnOk, slice_get, true};
+ghost use Rattle.std.specs.Prelude.{◌≡◌, ◌≢◌, ◌≤◌, ◌<◌, ◌↔◌, ◌++◌, ℕ, List, IfOk, OnOk, slice_get, true};
 ghost use Rattle.std.specs.Prelude.{IsTrue, None, Option, Some, false, length, map};
 ghost use Rattle.std.specs.List.{list_any};
 ghost use Rattle.std.specs.Option.{MatchOption, is_some};
@@ -13,10 +13,12 @@ ghost use Rattle.lexopt_line_spec.specs.Table as table;
 ghost use Rattle.lexopt_options_spec.specs.Declaration.{Declaration, has, index_of, is_sound};
 ghost use Rattle.lexopt_options_spec.specs.Asking.{asked_by};
 ghost use Rattle.lexopt_options_spec.specs.Legal as legal;
-ghost use Rattle.lexopt_options_spec.specs.Legal.{IsWithin, counts, default_beside};
+ghost use Rattle.lexopt_options_spec.specs.Legal.{AreApart, IsWithin, clash, counts};
+ghost use Rattle.lexopt_options_spec.specs.Legal.{default_beside};
 ghost use Rattle.lexopt_options_spec.specs.Legal.{defaults_beside, most, refused_value};
 ghost use Rattle.lexopt_options_spec.specs.Places.{least};
 ghost use Rattle.lexopt_options_spec.specs.Stops as stops;
+ghost use Rattle.lexopt_options_spec.specs.Stops.{IsFirstClash};
 ghost use Rattle.lexopt_declaration.specs.Models.{option_view};
 ghost use Rattle.lexopt_declaration.specs.Lookups.{names_at};
 ghost use Rattle.lexopt_options.specs.Declarations.{declaration_of, options_of, positionals_of};
@@ -45,7 +47,7 @@ use lexopt_base::refusal::Refusal;
 use lexopt_base::values::read_several;
 use lexopt_declaration::declaration as declared;
 use lexopt_declaration::declaration::{Declared, Names};
-use lexopt_declaration::lookup::{help_names_of, index_of_long, index_of_short};
+use lexopt_declaration::lookup::{are_same, help_names_of, index_of_long, index_of_short};
 use lexopt_declaration::nearest::{hinted_names, long_names};
 use lexopt_declaration::positionals::argument_placeholder;
 use lexopt_words::os_string::OsString;
@@ -85,7 +87,7 @@ pub(crate) struct Read<F, V, P, M, S> {
     // What the line means, by keys; if an option has a mistake, then before it. Each positional has
     // the key of the first declared one.
     pub(crate) parsed: Vec<Parsed<F, V, P, M, S>>,
-    // The indices of the options that were read and are required or have a default.
+    // The indices of the options that were read and are required, have a default or may be excluded.
     pub(crate) seen: Vec<usize>,
     // The number of positionals.
     pub(crate) count: usize,
@@ -323,14 +325,79 @@ fn missing_option<'a, F, V, P, M, S>(
     first_unseen(options.options(), seen)
 }
 
-// Whether this option is required or has a default.
+// The names of the first option among `seen` that this one excludes, which is at this index.
+fn first_excluded<'a, F, V, M, S>(
+    options: &'a [Declared<'a, F, V, M, S>],
+    option: &Declared<'a, F, V, M, S>,
+    index: usize,
+    seen: &[usize],
+) -> Option<Names<'a>>
+    requires here { slice_get options.now index ≡ Some option.now }
+    requires seen { has index seen.now ≡ true }
+    ensures { let clashes = clash (map option_view options.now) (λ i. has i seen.now) index in
+        MatchOption result ((other : ℕ) → clashes other ≡ false)
+        (λ names. (other : ℕ) × (clashes other ≡ true)
+        × ((i : ℕ) → i < other → clashes i ≡ false)
+        × (names_at options.now (Some other) ≡ Some names)) }
+{
+    for (other, declared) in options.iter().enumerate() {
+        if other != index
+            && are_same(option.exclusive, declared.exclusive)
+            && is_among(other, seen)
+        {
+            return Some(declared.names);
+        }
+    }
+    None
+}
+
+// The names of the first option among `seen` that excludes another of them, and of the first that it
+// excludes. It is not inlined, since few programs have such options.
+#[inline(never)]
+fn first_clash<'a, F, V, M, S>(
+    options: &'a [Declared<'a, F, V, M, S>],
+    seen: &[usize],
+) -> Option<(Names<'a>, Names<'a>)>
+    ensures { MatchOption result (AreApart (map option_view options.now) (λ i. has i seen.now))
+        (λ both. (index : ℕ) × (other : ℕ)
+        × IsFirstClash (map option_view options.now) (λ i. has i seen.now) index other
+        × (names_at options.now (Some index) ≡ Some both.0)
+        × (names_at options.now (Some other) ≡ Some both.1)) }
+{
+    for (index, option) in options.iter().enumerate() {
+        if is_among(index, seen) {
+            if let Some(other) = first_excluded(options, option, index, seen) {
+                return Some((option.names, other));
+            }
+        }
+    }
+    None
+}
+
+// The same for the options of a declaration.
+fn exclusive_options<'a, F, V, P, M, S>(
+    options: &Options<'a, F, V, P, M, S>,
+    seen: &[usize],
+) -> Option<(Names<'a>, Names<'a>)>
+    ensures { let all = (declaration_of options.now).options in
+        MatchOption result (AreApart all (λ i. has i seen.now))
+        (λ both. (index : ℕ) × (other : ℕ) × IsFirstClash all (λ i. has i seen.now) index other
+        × AreNames all index both.0 × AreNames all other both.1) }
+{
+    if !options.has_exclusive() {
+        return None;
+    }
+    first_clash(options.options(), seen)
+}
+
+// Whether this option is required, has a default or may be excluded.
 fn is_noted<F, V, M, S>(option: &Declared<'_, F, V, M, S>) -> bool
     ensures { result ≡ is_noted (option_view option.now) }
 {
-    option.required || option.default.is_some()
+    option.required || option.default.is_some() || option.exclusive.is_some()
 }
 
-// Adds the index of an option that was read to `seen`, if the option is required or has a default.
+// Adds the index of an option that was read to `seen`, if the end of the line hangs on it.
 fn note(counts: bool, index: usize, seen: &mut Vec<usize>) -> Result<(), AllocError>
     ensures { OnOk result (seen.new.items ≡ noted counts index seen.old.items) }
 {
@@ -340,12 +407,13 @@ fn note(counts: bool, index: usize, seen: &mut Vec<usize>) -> Result<(), AllocEr
     Ok(())
 }
 
-// Whether nothing can be missing from a line with `count` positionals, and no word has to be in a
-// list.
+// Whether nothing can be missing from a line with `count` positionals, no word has to be in a list,
+// and no option may be excluded.
 fn is_complete<F, V, P, M, S>(options: &Options<'_, F, V, P, M, S>, count: usize) -> bool
     ensures { IsTrue result ↔ (least (declaration_of options.now).positionals ≤ count)
         × (list_any (λ p. has_list p) (positionals_of options.now) ≡ false)
-        × (list_any (λ o. o.required) (options_of options.now) ≡ false) }
+        × (list_any (λ o. o.required) (options_of options.now) ≡ false)
+        × (list_any (λ o. is_some o.exclusive) (options_of options.now) ≡ false) }
 {
     if options.least() > count {
         return false;
@@ -353,7 +421,10 @@ fn is_complete<F, V, P, M, S>(options: &Options<'_, F, V, P, M, S>, count: usize
     if options.has_lists() {
         return false;
     }
-    !options.has_required()
+    if options.has_required() {
+        return false;
+    }
+    !options.has_exclusive()
 }
 
 // Whether a line without words means the empty list.
@@ -361,6 +432,7 @@ fn means_nothing<F, V, P, M, S>(options: &Options<'_, F, V, P, M, S>) -> bool
     ensures { IsTrue result ↔ (least (declaration_of options.now).positionals ≤ 0)
         × (list_any (λ p. has_list p) (positionals_of options.now) ≡ false)
         × (list_any (λ o. o.required) (options_of options.now) ≡ false)
+        × (list_any (λ o. is_some o.exclusive) (options_of options.now) ≡ false)
         × (list_any (λ o. is_some o.default) (options_of options.now) ≡ false) }
 {
     if options.has_defaults() {
@@ -370,7 +442,7 @@ fn means_nothing<F, V, P, M, S>(options: &Options<'_, F, V, P, M, S>) -> bool
 }
 
 // The mistake at the end of a line of which this was read, with `count` positionals: something is
-// missing, or a word is not in its list.
+// missing, a word is not in its list, or two options exclude each other.
 fn end_mistake<'a, F, V, P, M, S>(
     options: &Options<'a, F, V, P, M, S>,
     parsed: &[Parsed<F, V, P, M, S>],
@@ -392,8 +464,11 @@ fn end_mistake<'a, F, V, P, M, S>(
     if let Some(mistake) = invalid_argument(options, parsed)? {
         return Ok(Some(mistake));
     }
-    match missing_option(options, seen) {
-        Some(names) => Ok(Some(Mistake::MissingOption(names))),
+    if let Some(names) = missing_option(options, seen) {
+        return Ok(Some(Mistake::MissingOption(names)));
+    }
+    match exclusive_options(options, seen) {
+        Some((names, others)) => Ok(Some(Mistake::Exclusive(names, others))),
         None => Ok(None),
     }
 }
@@ -725,11 +800,11 @@ impl<'a, F: Copy, V: Copy, P: Copy, M: Copy, S: Copy> Options<'a, F, V, P, M, S>
         words: Vec<OsString>,
     ) -> Result<Line<'a, F, V, P, M, S>, AllocError>
         // The list is the one that the words legally spell, by the keys: declared options, each
-        // required one among them, and a number of positionals that the declaration allows, all
-        // with values and words that they accept; and it asks for nothing. The defaults of the
-        // options that are not in it come before it. Or the words ask for the help or the version
-        // before any mistake. Or their reading stops at this mistake, before which this was read and
-        // nothing was asked for.
+        // required one and no two that exclude each other among them, and a number of positionals
+        // that the declaration allows, all with values and words that they accept; and it asks for
+        // nothing. The defaults of the options that are not in it come before it. Or the words ask
+        // for the help or the version before any mistake. Or their reading stops at this mistake,
+        // before which this was read and nothing was asked for.
         ensures line { IfOk result (λ line. IsLineRead self.now words.items line) }
 
         // If the words legally spell such a list, this is that list after the defaults, or what it

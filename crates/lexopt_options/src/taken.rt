@@ -25,21 +25,13 @@ use lexopt_declaration::positionals::most_of;
 use lexopt_words::os_string::OsString;
 use std::alloc::{AllocError, Global};
 
-// Whether this positional has a list.
-fn has_list<P>(positional: &Positional<'_, P>) -> bool
-    ensures { result ≡ taken.has_list positional.now }
-{
-    match positional.words {
-        Words::Listed(_) => true,
-        Words::Files | Words::Directories | Words::Text => false,
-    }
-}
-
 /// Whether one of these positionals has a list.
 pub fn any_has_list<P>(positionals: &[Positional<'_, P>]) -> bool
     ensures { result ≡ list_any (λ p. taken.has_list p) positionals.now }
 {
-    positionals.iter().any(|positional| has_list(positional))
+    positionals
+        .iter()
+        .any(|positional| matches!(positional.words, Words::Listed(_)))
 }
 
 // ---- the end of a line

@@ -5,7 +5,7 @@ ghost use Rattle.std.specs.Process.{exit_status};
 ghost use Rattle.lexopt_declaration.specs.Lookups.{names_at};
 ghost use Rattle.lexopt_options.specs.Declarations.{options_of};
 ghost use Rattle.lexopt_options.specs.Usage as usage;
-ghost use Rattle.lexopt_options.specs.Usage.{ConvertsFor, for_option, invalid_message, named};
+ghost use Rattle.lexopt_options.specs.Usage.{ConvertsFor, for_option, invalid_message};
 ghost use Rattle.lexopt_options.specs.Usage.{value_message, what_message, why_message};
 
 use crate::options::Options;
@@ -239,19 +239,6 @@ fn invalid<'a>(option: Option<Names<'a>>, error: Error) -> UsageError<'a>
     }
 }
 
-// What was converted, or the mistake, which names the option.
-fn name_error<'a, T>(
-    option: Option<Names<'a>>,
-    converted: Result<T, Error>,
-) -> Result<T, UsageError<'a>>
-    ensures { result ≡ named option.entry converted }
-{
-    match converted {
-        Ok(value) => Ok(value),
-        Err(error) => Err(invalid(option, error)),
-    }
-}
-
 // Writes that a value is invalid, and the value if the error has it.
 fn write_what<W: fmt::Write>(error: &Error, f: &mut fmt::Formatter<W>) -> fmt::Result
     ensures { WritesOnOk W.write_str_gives f.old result (what_message error.now) f.new }
@@ -352,7 +339,10 @@ where
     ensures { ConvertsFor (names_at (options_of options.now) place) T.from_str_gives
         T.Err.converts word.now result }
 {
-    name_error(names_of(options.options(), place), word.parse())
+    match word.parse() {
+        Ok(value) => Ok(value),
+        Err(error) => Err(invalid(names_of(options.options(), place), error)),
+    }
 }
 
 impl<'a, F, V: Copy + PartialEq, P, M, S> Options<'a, F, V, P, M, S> {

@@ -6,6 +6,7 @@ use Rattle.lexopt_options_spec.proofs.Common.{words_alone, nothing_given, full_s
 use Rattle.lexopt_spec.specs.Steps as steps
 use Rattle.lexopt_spec.specs.Steps.{Reply, NextStep, ValueStep, OptionalStep, ReadsShort, ReadsPositional, no_word_left, word_left, ReadsWord, no_word, reads_separator, reads_long, reads_cluster, reads_positional, joined_value, equals_value, next_in_cluster, after_separator, next_word, pending_value, takes_word, nothing_to_take, optional_pending, optional_none}
 use Rattle.lexopt_spec.proofs.PlainFronts.{front_only, left_after_front}
+use Rattle.lexopt_options_spec.proofs.Lists.{both_empty}
 
 -- the line with these words instead of its own
 abbrev pub with_words : List (List ℕ) → UnreadLine → UnreadLine
@@ -33,10 +34,6 @@ one_read left ws w some same is holds = record { before = w ∷ left; words_are 
 also : {u : UnreadLine} {tail : List (List ℕ)} {P Q : UnreadLine → Type 0} (cut : Cut u tail P) → Q (with_words cut.before u) → Cut u tail Q
 also cut holds = record { before = cut.before; words_are = cut.words_are; holds = holds }
 
-empty_front : (left tail : List (List ℕ)) → left ++ tail ≡ [] → left ≡ []
-empty_front [] tail is = refl
-empty_front (w ∷ left) tail is = absurd (let e : w ∷ (left ++ tail) ≡ [] = is in cc)
-
 -- ---- steps
 
 -- if no word is left, the line ends
@@ -50,13 +47,13 @@ short_cut bytes u v r left tail is reads =
 
 positional_cut : (u v : UnreadLine) (r : Reply) (left tail : List (List ℕ)) → v.words ≡ left ++ tail → ReadsPositional u r v → Cut u tail (λ x. ReadsPositional x r (with_words left v))
 positional_cut u v r left tail is (no_word_left none r_is after) =
-    none_read left (same_words after) is (no_word_left (empty_front left tail (sym is ∙ same_words after ∙ none)) r_is (ap (with_words left) after))
+    none_read left (same_words after) is (no_word_left (both_empty left tail (sym is ∙ same_words after ∙ none)).0 r_is (ap (with_words left) after))
 positional_cut u v r left tail is (word_left w ws some r_is after) =
     one_read left ws w some (same_words after) is (word_left w left refl r_is (ap (with_words left) after))
 
 word_cut : (u v : UnreadLine) (r : Reply) (left tail : List (List ℕ)) → v.words ≡ left ++ tail → ReadsWord u r v → Cut u tail (λ x. ReadsWord x r (with_words left v))
 word_cut u v r left tail is (no_word none r_is after) =
-    none_read left (same_words after) is (no_word (empty_front left tail (sym is ∙ same_words after ∙ none)) r_is (ap (with_words left) after))
+    none_read left (same_words after) is (no_word (both_empty left tail (sym is ∙ same_words after ∙ none)).0 r_is (ap (with_words left) after))
 word_cut u v r left tail is (reads_separator ws some reads) =
     let cut = positional_cut (record u { words = ws; ended = true }) v r left tail is reads in
     one_read cut.before ws (dash ∷ dash ∷ []) some refl cut.words_are (reads_separator cut.before refl cut.holds)
@@ -86,7 +83,7 @@ value_cut u v r left tail is (pending_value value by_equals has r_is after) =
 value_cut u v r left tail is (takes_word w ws none some r_is after) =
     one_read left ws w some (same_words after) is (takes_word w left none refl r_is (ap (with_words left) after))
 value_cut u v r left tail is (nothing_to_take none empty r_is after) =
-    none_read left (same_words after) is (nothing_to_take none (empty_front left tail (sym is ∙ same_words after ∙ empty)) r_is (ap (with_words left) after))
+    none_read left (same_words after) is (nothing_to_take none (both_empty left tail (sym is ∙ same_words after ∙ empty)).0 r_is (ap (with_words left) after))
 
 optional_cut : (u v : UnreadLine) (r : Reply) (left tail : List (List ℕ)) → v.words ≡ left ++ tail → OptionalStep u r v → Cut u tail (λ x. OptionalStep x r (with_words left v))
 optional_cut u v r left tail is (optional_pending value by_equals has r_is after) =

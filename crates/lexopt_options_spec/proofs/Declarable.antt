@@ -1,20 +1,12 @@
 -- The fault that the prover computes is the first one that there is.
+use Rattle.lexopt_options_spec.proofs.Common.{list_all, list_any, starts_with, IsUtf8, list_any-append, same_Some, replacement, lossy_characters, equals, Name, short, long, encoded, AreText, IsText}
 use Rattle.std.proofs.Common.{◌≡◌, ◌≢◌, ℕ, zero, suc, ◌+◌, ◌/◌, ◌%◌, Bool, true, false, nat_eq, ◌==◌, ◌||◌, ◌&&◌, List, [], ◌∷◌, ◌++◌, take, Option, Some, None, is_none, cond, encode_utf8, encode_utf8_all, refl, sym, ap, subst, ◌∙◌, arith, ⊎_elim}
 use Rattle.std.proofs.Math.Bool.{or_comm, or-false}
 use Rattle.std.specs.Prelude.{slice_get}
-use Rattle.std.specs.List.{list_all, list_any, starts_with}
-use Rattle.std.specs.Str.{IsUtf8}
 use Rattle.std.proofs.lemmas.Bool.{true≢false, and_parts, or_parts, or_left, or_right, or_cases, false_from_ne_true, cond_both, ltb-true, eqb-true, eq-eqb, ne_eqb}
-use Rattle.std.proofs.lemmas.List.Folds.{list_any-append}
-use Rattle.std.proofs.lemmas.Option.{same_Some}
 use lib.Dec.{ltb}
 use lib.Utf8.{encode}
-use Rattle.lexopt_spec.specs.Pieces.{replacement, lossy_characters}
-use Rattle.lexopt_spec.specs.UnreadLine.{equals}
-use Rattle.lexopt_line_spec.specs.Table.{Name, short, long}
-use Rattle.lexopt_line_spec.proofs.Names.{encoded}
-use Rattle.lexopt_options_spec.specs.Completion.{AreText, IsText}
-use Rattle.lexopt_options_spec.specs.Declaration.{Declared, Reason, empty_name, equals_in_name, replacement_in_name, blank_or_control_in_name, same_name, all_names, or_else, has, has_name, is_blank_or_control, is_empty, is_one_of, name_fault, names_fault, shares_name, Beside, nothing, a_flag, negation, name_beside, is_flag, label_fault, bad_label, fault, faults, is_sound, IsFirstFault}
+use Rattle.lexopt_options_spec.specs.Declaration.{Declared, Reason, empty_name, equals_in_name, replacement_in_name, blank_or_control_in_name, all_names, or_else, has, has_name, is_blank_or_control, is_empty, is_one_of, name_fault, names_fault, shares_name, Beside, nothing, a_flag, negation, name_beside, is_plain_flag, label_fault, bad_label, fault, faults, is_sound, IsFirstFault}
 use Rattle.lexopt_options_spec.specs.Declarable.{byte_fault, has_replacement, fault_beside, or_later, fault_from, first_fault}
 use Rattle.lexopt_options_spec.proofs.Tables.{name_refl}
 
@@ -109,10 +101,8 @@ one_more others before o same = λ f. ap (λ b. f o || b) (same f) ∙ or_comm (
 
 same_label : (others before : List Declared) → Same others before → (b : Beside) (name : Option Name) → label_fault others b name ≡ label_fault before b name
 same_label others before same nothing name = refl
-same_label others before same (a_flag c) None = refl
-same_label others before same negation None = refl
-same_label others before same (a_flag c) (Some name) = ap (λ found. cond found None (Some bad_label)) (same (λ o. is_flag o.kind && has_name name o))
-same_label others before same negation (Some name) = ap (λ found. cond found None (Some bad_label)) (same (λ o. is_flag o.kind && has_name name o))
+same_label others before same b None = refl
+same_label others before same b (Some name) = ap (λ found. cond found None (Some bad_label)) (same (λ o. is_plain_flag o && has_name name o))
 
 same_fault : (others before : List Declared) (o : Declared) → ((name : Name) → has_name name o ≡ true → IsText name) → Same others before → fault_beside others o ≡ fault before o
 same_fault others before o text same =
@@ -172,3 +162,5 @@ fault_first options index reason text is =
     let found = found_at 0 (faults [] options) index reason (sym (computed options text) ∙ is) in
     let here : index ≡ found.0 = omega (arith, found.1) in
     subst (λ (k : ℕ). IsFirstFault options k reason) (sym here) record { here = found.2.0; before = found.2.1 }
+
+pub ruleset both_ways = (declarable_sound, sound_declarable, fault_first)

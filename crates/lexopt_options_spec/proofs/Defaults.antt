@@ -1,9 +1,7 @@
 -- The defaults of the options that are not in a list.
+use Rattle.lexopt_options_spec.proofs.Common.{list_any, false≢true, or_parts, Declared}
 use Rattle.std.proofs.Common.{◌≡◌, ◌+◌, ◌++◌, ℕ, suc, Bool, true, false, List, [], ◌∷◌, map, length, cond, Option, Some, None, refl, sym, ap, ◌∙◌, append-nil, append_assoc, add-zero, arith}
-use Rattle.std.specs.List.{list_any}
 use Rattle.std.specs.Option.{is_some, option_to_list}
-use Rattle.std.proofs.lemmas.Bool.{false≢true, or_parts}
-use Rattle.lexopt_options_spec.specs.Declaration.{Declared}
 use Rattle.lexopt_options_spec.specs.Legal.{Parsed, default_beside, defaults_beside, occurs, option, positional_count, with_defaults}
 use Rattle.lexopt_options_spec.proofs.Lists.{count_append}
 

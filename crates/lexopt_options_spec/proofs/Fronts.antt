@@ -4,11 +4,11 @@ use Rattle.lexopt_options_spec.proofs.Common.{and_parts, false≢true, IsLine, U
 use Rattle.lexopt_options_spec.proofs.Common.{Spells, shown_spells, spelled_shows, option_reading, some_reading, says_items, says_positional, reads_last, reads_refused, step_line, said_shows}
 use Rattle.lexopt_options_spec.proofs.Common.{shown_read, shown_said, Declaration, Declared, index_of, is_sound, table, Parsed, parsed_item, positional, positional_count, positional_words, occurs}
 use Rattle.lexopt_options_spec.proofs.Common.{most, IsWithin, MeansFront, Means, are_accepted, refused_value, AreTaken, least, Mistake, ReadsUpTo, Stops, not_declared, value_of_flag, no_value}
-use Rattle.lexopt_options_spec.proofs.Common.{not_accepted, one_too_many, too_few, not_taken, not_complete, StopsAt, missing_value, unexpected_argument, unexpected_value, unknown_option}
+use Rattle.lexopt_options_spec.proofs.Common.{not_accepted, one_too_many, too_few, not_taken, not_complete, StopsAt, missing_value, unexpected_argument, unexpected_value, unknown_option, Reply, Next}
+use Rattle.lexopt_options_spec.proofs.Common.{IsOf}
+use Rattle.lexopt_options_spec.proofs.Common.{clash, not_apart}
 use Rattle.lexopt_spec.specs.Steps as steps
-use Rattle.lexopt_spec.specs.Steps.{Reply, Next}
 use Rattle.lexopt_line_spec.specs.Table as spec
-use Rattle.lexopt_line_spec.specs.Speller.{IsOf}
 use Rattle.lexopt_line_spec.proofs.Existence.{only_one}
 use Rattle.lexopt_options_spec.proofs.ReadItems.{ReadsAll, all_read}
 use Rattle.lexopt_options_spec.proofs.Sound.{whole_names}
@@ -48,14 +48,21 @@ same_parsed d words l m items others spelled too are is =
 pub one_front : (d : Declaration) (words : List (List ℕ)) (l m : List Parsed) → MeansFront d words l → MeansFront d words m → l ≡ m
 one_front d words l m means other = same_parsed d words l m means.items other.items means.spelled other.spelled means.parsed other.parsed
 
--- what a reading that reaches the end means
-pub front_parsed : (d : Declaration) → is_sound d.options ≡ true → (words : List (List ℕ)) (items : List Item) (l : List Parsed) → IsReading (table d.options) (start d.short_equals words) steps.end items
-    → map (parsed_item d.options) items ≡ map (λ s. Some s) l → IsWithin (positional_count l) (most d.positionals) → MeansFront d words l
-front_parsed d sound words items l reading parsed within = record {
-  items = items;
-  spelled = shown_spells (table d.options) d.short_equals words items (said_shows (table d.options) d.short_equals words items reading) (whole_names d.options sound items l parsed);
-  parsed = parsed;
-  within = within;
+-- words that are read to their end spell what was read
+pub read_spells : (d : Declaration) → is_sound d.options ≡ true → (words : List (List ℕ)) (items : List Item) (l : List Parsed) (v w : UnreadLine) → ReadsItems (table d.options) (start d.short_equals words) items v
+    → Next v steps.end w → map (parsed_item d.options) items ≡ map (λ s. Some s) l → Spells (table d.options) d.short_equals words items
+read_spells d sound words items l v w reads ends parsed =
+    let t = table d.options in
+    let reading = subst (IsReading t (start d.short_equals words) steps.end) (append-nil items) (says_items t (start d.short_equals words) v items reads steps.end [] (reads_last t v w steps.end tt ends)) in
+    shown_spells t d.short_equals words items (said_shows t d.short_equals words items reading) (whole_names d.options sound items l parsed)
+
+-- and mean it
+pub whole_front : (d : Declaration) (words : List (List ℕ)) (l : List Parsed) (v w : UnreadLine) → is_sound d.options ≡ true → ReadsUpTo d (start d.short_equals words) l v → Next v steps.end w → MeansFront d words l
+whole_front d words l v w sound read ends = record {
+  items = read.items;
+  spelled = read_spells d sound words read.items l v w read.read ends read.parsed;
+  parsed = read.parsed;
+  within = read.within;
 }
 
 -- ---- words whose reading stops mean nothing
@@ -138,21 +145,24 @@ not_refused options (b ∷ before) s rest value accepted refused =
 stops_whole : (d : Declaration) (words : List (List ℕ)) (before : List Parsed) (mistake : Mistake) (u : UnreadLine) → ReadsUpTo d (start d.short_equals words) before u → Stops d before u mistake
     → (l : List Parsed) → Means d words l → ⊥
 stops_whole d words before mistake u read (too_few v step few) l means =
-    let enough : least d.positionals ≤ positional_count before = subst (λ m. least d.positionals ≤ positional_count m) (front_is d words before u v read step l means.front) means.enough in
+    let enough : least d.positionals ≤ positional_count before = subst (λ m. least d.positionals ≤ positional_count m) (front_is d words before u v read step l means.whole.front) means.whole.enough in
     omega arith
 stops_whole d words before mistake u read (not_complete index v step enough taken first) l means =
-    let same = front_is d words before u v read step l means.front in
-    false≢true (sym first.absent ∙ ap (occurs index) (sym same) ∙ means.complete index first.here)
+    let same = front_is d words before u v read step l means.whole.front in
+    false≢true (sym first.absent ∙ ap (occurs index) (sym same) ∙ means.whole.complete index first.here)
+stops_whole d words before mistake u read (not_apart index other v step enough taken complete first) l means =
+    let same = front_is d words before u v read step l means.whole.front in
+    false≢true (sym (means.apart index other) ∙ ap (λ m. clash d.options (λ i. occurs i m) index other) same ∙ first.here)
 stops_whole d words before mistake u read (not_taken index word v step enough unfit) l means =
-    let same = front_is d words before u v read step l means.front in
-    not_both d.positionals (positional_words before) index word unfit (subst (λ m. AreTaken d.positionals (positional_words m)) same means.taken)
+    let same = front_is d words before u v read step l means.whole.front in
+    not_both d.positionals (positional_words before) index word unfit (subst (λ m. AreTaken d.positionals (positional_words m)) same means.whole.taken)
 stops_whole d words before mistake u read (not_accepted s index value v own option refused) l means =
     let r = some_reading (table d.options) v own.line in
-    let rest = (ends d words before u read l means.front r.0 (own.items ++ r.1) (says_items (table d.options) u v own.items own.read r.0 r.1 r.2)).1 in
+    let rest = (ends d words before u read l means.whole.front r.0 (own.items ++ r.1) (says_items (table d.options) u v own.items own.read r.0 r.1 r.2)).1 in
     let more = split (parsed_item d.options) own.items r.1 (s ∷ []) rest.later own.parsed rest.are in
-    let accepted : are_accepted d.options (before ++ s ∷ more.later) ≡ true = subst (λ m. are_accepted d.options m ≡ true) (rest.all_are ∙ ap (λ m. before ++ m) more.all_are) means.accepted in
+    let accepted : are_accepted d.options (before ++ s ∷ more.later) ≡ true = subst (λ m. are_accepted d.options m ≡ true) (rest.all_are ∙ ap (λ m. before ++ m) more.all_are) means.whole.accepted in
     not_refused d.options before s more.later value accepted refused
-stops_whole d words before mistake u read stops l means = stops_front d words before mistake u read tt stops l means.front
+stops_whole d words before mistake u read stops l means = stops_front d words before mistake u read tt stops l means.whole.front
 
 -- words whose reading stops mean nothing
 pub nothing_parsed : (d : Declaration) (words : List (List ℕ)) (before : List Parsed) (mistake : Mistake) → StopsAt d words before mistake → (l : List Parsed) → Means d words l → ⊥

@@ -3,16 +3,18 @@ use Rattle.lexopt_options_spec.proofs.Common.{◌≡◌, ◌≢◌, ◌<◌, ℕ
 use Rattle.lexopt_options_spec.proofs.Common.{true≢false, append-nil, All-nil, All-cons, All-append, dash, no_tail, UnreadLine, IsLine, spelling, pending, IsPlain, IsNormalIn, IsPlainFront}
 use Rattle.lexopt_options_spec.proofs.Common.{plain_front, available, available_with, without, ValuesStep, no_values, some_values, Step, Item, Name, short, long, flag, one, optional, several, kind}
 use Rattle.lexopt_options_spec.proofs.Common.{Table, many, ReadsFirst, ReadsItems, first_positional, first_flag, first_one, first_optional, first_several, option_reply, next_same, FullStep}
-use Rattle.lexopt_options_spec.proofs.Common.{joined_one, attached_first, words_alone, nothing_given, full_step, option_given, step_line}
+use Rattle.lexopt_options_spec.proofs.Common.{joined_one, attached_first, words_alone, nothing_given, full_step, option_given, step_line, HandedItems, hands_nothing, hands_pending, hands_words}
+use Rattle.lexopt_options_spec.proofs.Common.{values_hands, none_tail}
 use Rattle.lexopt_spec.specs.Steps as steps
 use Rattle.lexopt_spec.specs.Steps.{Reply, Next, Value, NextStep, ValueStep, OptionalStep, ReadsShort, ReadsPositional, no_word_left, word_left, ReadsWord, no_word, reads_separator, reads_long, reads_cluster, reads_positional, joined_value, equals_value, next_in_cluster, after_separator, next_word, pending_value, takes_word, nothing_to_take, optional_pending, optional_none}
 use Rattle.lexopt_spec.specs.Runs as calls
 use Rattle.lexopt_spec.proofs.PlainFronts.{front-more, front-none}
 use Rattle.lexopt_line_spec.specs.Table as spec
 use Rattle.lexopt_line_spec.proofs.Lines.{next_line}
-use Rattle.lexopt_line_spec.proofs.OptionalLaw.{none_tail}
 use Rattle.lexopt_line_spec.proofs.ReplyKinds.{next_open}
 use Rattle.lexopt_options_spec.proofs.Cuts.{AllGiven, joined_given, attached_given, words_given, came_is, ends_here, enough}
+use Rattle.lexopt_options_spec.proofs.Lists.{not_empty}
+use Rattle.std.proofs.lemmas.Bool.{true_from_ne_false}
 
 -- the line with more words at its end
 abbrev pub longer : List (List ℕ) → UnreadLine → UnreadLine
@@ -142,11 +144,11 @@ pub option_before_separator : (u v : UnreadLine) (name : Name) → IsLine u → 
 option_before_separator u v (short c) line step = next_open u v (steps.short c) line (option_given u v (short c) step) tt
 option_before_separator u v (long text) line step = next_open u v (steps.long text) line (option_given u v (long text) step) tt
 
-pub full_ended : (v w : UnreadLine) (r : Reply) → FullStep v r w → w.ended ≡ v.ended
-full_ended v w r (joined_one value has r_is after) = ap (λ (x : UnreadLine). x.ended) after
-full_ended v w r (attached_first value front left has plain r_is after) = ap (λ (x : UnreadLine). x.ended) after
-full_ended v w r (words_alone front left has plain some r_is after) = ap (λ (x : UnreadLine). x.ended) after
-full_ended v w r (nothing_given has none r_is after) = ap (λ (x : UnreadLine). x.ended) after
+-- values are taken on one side of the separator
+pub hands_ended : (v w : UnreadLine) (l : List (List ℕ)) → HandedItems v l w → w.ended ≡ v.ended
+hands_ended v w l (hands_nothing none after) = ap (λ (x : UnreadLine). x.ended) after
+hands_ended v w l (hands_words left none are after) = ap (λ (x : UnreadLine). x.ended) after
+hands_ended v w l (hands_pending value by_equals front left has is are after) = ap (λ (x : UnreadLine). x.ended) after
 
 full_no_tail : (v w : UnreadLine) (r : Reply) → IsLine v → FullStep v r w → w.tail ≡ no_tail
 full_no_tail v w r line (joined_one value has r_is after) = ap (λ (x : UnreadLine). x.tail) after
@@ -214,12 +216,8 @@ one_value_more v w came p before apart none normal (words_alone front left has p
     let empty : left ≡ [] = sym (ap (λ (x : UnreadLine). x.words) after) ∙ none in
     subst (λ (l : List (List ℕ)). AllGiven (longer (p ∷ []) v) (l ++ p ∷ []) w) (came_is came front r_is)
     (words_given (longer (p ∷ []) v) w (front ++ p ∷ []) [] has
-    (front_adds v.ended v.words front left p empty (subst (λ e. IsPlain e p) (sym before) normal) plain) (not_empty front)
+    (front_adds v.ended v.words front left p empty (subst (λ e. IsPlain e p) (sym before) normal) plain) (not_empty front [] p)
     (after ∙ ap (λ (l : List (List ℕ)). record v { words = l }) empty))
-  where
-    not_empty : (front : List (List ℕ)) → front ++ p ∷ [] ≢ []
-    not_empty [] is = let e : p ∷ [] ≡ [] = is in cc
-    not_empty (x ∷ front) is = let e : x ∷ (front ++ p ∷ []) ≡ [] = is in cc
 one_value_more v w came p before apart none normal (nothing_given has nothing r_is after) = absurd (let e : steps.items came ≡ steps.missing _ = r_is in cc)
 
 several_read : (t : Table) (u v w : UnreadLine) (name : Name) (values : List (List ℕ)) → kind t name ≡ several → Next u (option_reply name) v → AllGiven v values w → ReadsFirst t u (many name values) w
@@ -230,28 +228,25 @@ pub grows_several : (t : Table) (u v w : UnreadLine) (name : Name) (n : ℕ) (va
     → (joined ≡ true → (value : List ℕ) × (pending v ≡ Some (value, true))) → Grows t u (many name values) (not joined) w
 grows_several t u v w name n values joined line k step few takes if_pending if_joined =
     let before = option_before_separator u v name line step in
-    let full = full_step n v w (steps.items values) few (enough (ValuesStep n) v (steps.items values) w takes (λ none. cc)) in
+    let given = enough (ValuesStep n) v (steps.items values) w takes (λ none. cc) in
+    let full = full_step n v w (steps.items values) few given in
     let nothing_left = full_no_tail v w (steps.items values) (next_line u v (option_reply name) line (option_given u v name step)) full in
     record {
       reads = first_several name n values v w k step few takes;
       calm = λ tail calm. several_read t (longer tail u) (longer tail v) (longer tail w) name values k (option_more u v name tail step)
           (values_more v w values tail (λ none. subst (λ e. ¬ IsNormalIn e tail) (sym before) (calm none nothing_left)) full);
       closed = λ is tail.
-          let value = if_joined (is_true joined is) in
+          let value = if_joined (true_from_ne_false joined (λ off. true≢false (sym (ap not off) ∙ is))) in
           several_read t (longer tail u) (longer tail v) (longer tail w) name values k (option_more u v name tail step) (joined_more v w values tail value.0 value.1 full);
       opened = λ is. record {
         name = name;
         values = values;
         is = refl;
-        before_separator = full_ended v w (steps.items values) full ∙ before;
+        before_separator = hands_ended v w values (values_hands n v (steps.items values) w given) ∙ before;
         more = λ none p plain. several_read t (longer (p ∷ []) u) (longer (p ∷ []) v) w name (values ++ p ∷ []) k (option_more u v name (p ∷ []) step)
             (one_value_more v w values p before (λ value has. true≢false (sym is ∙ ap not (if_pending value has))) none plain full);
       };
     }
-  where
-    is_true : (b : Bool) → not b ≡ false → b ≡ true
-    is_true true is = refl
-    is_true false is = absurd (true≢false is)
 
 -- ---- items, one by one
 

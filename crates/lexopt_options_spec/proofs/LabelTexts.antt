@@ -1,11 +1,10 @@
 -- The texts by which labels show their forms.
-use Rattle.std.proofs.Common.{◌≡◌, ℕ, List, [], ◌∷◌, ◌++◌, ◌⊎◌, inl, inr, Option, Some, None, codes, encode_utf8, refl, sym, ap, subst, ◌∙◌, append_assoc, append-nil}
-use Rattle.lexopt_spec.specs.UnreadLine.{equals}
+use Rattle.lexopt_options_spec.proofs.Common.{◌≡◌, ℕ, List, [], ◌∷◌, ◌++◌, ◌⊎◌, inl, inr, Option, Some, None, codes, encode_utf8, refl, sym, ap, subst, ◌∙◌, append_assoc, append-nil, equals, Beside}
+use Rattle.lexopt_options_spec.proofs.Common.{Declared, a_flag, LabelForm, short_flag, short_one, short_optional, short_optional_value, short_several, long_flag, long_one, long_optional}
+use Rattle.lexopt_options_spec.proofs.Common.{long_optional_value, long_several, flag_beside, negated_flag}
 use Rattle.lexopt_line_spec.specs.Table.{short, long, Name, Item, option, many, Kind, flag, one, optional, several}
 use Rattle.lexopt_line_spec.specs.Spelling.{no_value, attached_value, joined_value, next_word, no_optional, attached_optional, joined_optional, joined_several, attached_several, several_words}
-use Rattle.lexopt_options_spec.specs.Declaration.{Beside, Declared, a_flag, negation}
 use Rattle.lexopt_options_spec.specs.Help.{label, label_of, short_word, in_brackets, if_alone, after_long, before_long, before_alone, long_shown, CanSay, HasOnly, ShowsName}
-use Rattle.lexopt_options_spec.specs.Help.{LabelForm, short_flag, short_one, short_optional, short_optional_value, short_several, long_flag, long_one, long_optional, long_optional_value, long_several, flag_beside, negated_flag}
 
 -- ---- the text of a name
 
@@ -23,21 +22,15 @@ long_text b several name value = long_shown b name ++ (codes " " ++ value ++ cod
 
 after_name : (b : Beside) (k : Kind) (name value : List ℕ) → long_text b k name value ≡ long_shown b name ++ after_long k value
 after_name b flag name value = sym (append-nil (long_shown b name))
-after_name b one name value = refl
-after_name b optional name value = refl
-after_name b several name value = refl
+after_name b k name value = refl
 
 short_alone : (b : Beside) (k : Kind) (c : ℕ) (value : List ℕ) → label_of b (Some c) None k value ≡ short_text k c None value
 short_alone b flag c value = refl
-short_alone b one c value = refl
-short_alone b optional c value = refl
-short_alone b several c value = refl
+short_alone b k c value = refl
 
 short_before : (k : Kind) (c : ℕ) (name value : List ℕ) → short_text k c (Some name) value ≡ short_word c (before_long k value)
 short_before flag c name value = refl
-short_before one c name value = refl
-short_before optional c name value = refl
-short_before several c name value = refl
+short_before k c name value = refl
 
 long_alone : (b : Beside) (k : Kind) (name value : List ℕ) → label_of b None (Some name) k value ≡ before_alone b ++ long_text b k name value
 long_alone b k name value = ap (λ text. before_alone b ++ text) (sym (after_name b k name value))

@@ -1,24 +1,18 @@
 -- Words spell each form that a label shows.
-use Rattle.std.proofs.Common.{◌≡◌, ◌≢◌, ℕ, ◌<◌, ◌==◌, ◌&&◌, not, Bool, true, false, cond, List, [], ◌∷◌, ◌++◌, Option, Some, None, codes, encode_utf8, get_or-take, length-take-le, take, suc, zero, lit<, refl, sym, ap, subst, ◌∙◌, arith, inl, inr, true≢false}
-use Rattle.std.proofs.lemmas.Bool.{eq-eqb, and_parts}
+use Rattle.lexopt_options_spec.proofs.Common.{eq-eqb, and_parts, eqb-false, not-true, All-cons, All-nil, Any-from_list_any, IsScalar, replacement, dash, equals, BeginsWith, IsPlain, IsText}
+use Rattle.std.proofs.Common.{◌≡◌, ◌≢◌, ℕ, ◌<◌, ◌==◌, ◌&&◌, not, Bool, true, false, cond, List, [], ◌∷◌, ◌++◌, Option, Some, None, codes, encode_utf8, get_or-take, length-take-le, take, suc, zero, lit<, refl, sym, ap, subst, ◌∙◌, arith, inr, true≢false}
 use Rattle.std.specs.Prelude.{Contains}
 use Rattle.std.specs.List.{All}
-use Rattle.std.proofs.lemmas.List.Elements.{All-cons, All-nil}
-use Rattle.std.proofs.lemmas.List.Folds.{Any-from_list_any}
 use Rattle.std.proofs.lemmas.Str.{IsUtf8-append, IsUtf8-from_ascii}
-use Rattle.std.specs.Char.{IsScalar}
 use Rattle.std.specs.Str.{IsAscii, IsUtf8}
-use Rattle.lexopt_spec.specs.Pieces.{replacement}
-use Rattle.lexopt_spec.specs.UnreadLine.{dash, equals, BeginsWith, IsPlain}
 use Rattle.lexopt_line_spec.specs.Table.{short, long, Name, Item, many, option, Kind, flag, one, optional, several, Table, kind}
 use Rattle.lexopt_line_spec.specs.Spelling.{After, nothing, attached, joined, no_value, joined_value, next_word, no_optional, attached_optional, joined_optional, several_words, Completes, last_option, IsAfterLast, nothing_more, a_value, IsLong, name_alone, name_and_value, cluster, long_option, no_words, group, Spells}
 use Rattle.lexopt_line_spec.proofs.SpellerTests.{dash_first, no_equals}
-use Rattle.lexopt_options_spec.specs.Declaration.{Declared, all_names, has_name, table, Reason, is_blank_or_control, blank_or_control_in_name, dash_name, empty_name, equals_in_name, replacement_in_name, bad_placeholder, bad_label, has, is_placeholder, short_fault, long_fault, name_fault, placeholder_fault, label_fault, have_flag, is_flag, is_sound, Beside, a_flag, negation, name_beside, negated}
+use Rattle.lexopt_options_spec.specs.Declaration.{Declared, all_names, has_name, table, Reason, is_blank_or_control, blank_or_control_in_name, dash_name, empty_name, equals_in_name, replacement_in_name, bad_placeholder, bad_label, has, is_placeholder, short_fault, long_fault, name_fault, placeholder_fault, label_fault, have_flag, is_flag, is_nothing, is_plain_flag, is_sound, Beside, a_flag, negation, name_beside, negated}
 use Rattle.lexopt_options_spec.specs.Declaration as besides
-use Rattle.lexopt_options_spec.specs.Completion.{IsText}
 use Rattle.lexopt_options_spec.specs.Help.{LabelForm, short_flag, short_one, short_optional, short_optional_value, short_several, long_flag, long_one, long_optional, long_optional_value, long_several, flag_beside, negated_flag, short_word, long_word, HasTextNames}
 use Rattle.lexopt_options_spec.proofs.Tables.{kind_of_name, long_named, short_named}
-use Rattle.lexopt_options_spec.proofs.FaultLemmas.{IsFaultless, faultless_at}
+use Rattle.lexopt_options_spec.proofs.FaultLemmas.{IsFaultless, faultless_at, passes}
 use Rattle.lexopt_options_spec.proofs.Sound.{names_fine}
 
 -- ---- what a sound declaration means for one option
@@ -52,24 +46,15 @@ record IsValue (value : List ℕ) : Type 0 where
   no_option : ¬ BeginsWith dash value
   no_mark : ¬ BeginsWith equals value
 
-differs : (b d : ℕ) → not (b == d) ≡ true → b ≢ d
-differs b d e is = true≢false (sym e ∙ ap not (eq-eqb b d is))
-
 is_value : (value : List ℕ) → is_placeholder value ≡ true → IsValue value
 is_value [] e = absurd (true≢false (sym e))
 is_value (b ∷ bs) e =
     let parts = and_parts (not (b == dash)) (not (b == equals)) e in
-    record { some = λ is. cc; no_option = differs b dash parts.0; no_mark = differs b equals parts.1 }
-
-passes : (b : Bool) (r : Reason) → cond b None (Some r) ≡ None → b ≡ true
-passes true r e = refl
-passes false r e = let f : Some r ≡ None = e in cc
+    record { some = λ is. cc; no_option = eqb-false b dash (not-true _ parts.0); no_mark = eqb-false b equals (not-true _ parts.1) }
 
 value_of : (k : Kind) (value : List ℕ) → placeholder_fault k value ≡ None → k ≢ flag → IsValue value
 value_of flag value fine some = absurd (some refl)
-value_of one value fine some = is_value value (passes (is_placeholder value) bad_placeholder fine)
-value_of optional value fine some = is_value value (passes (is_placeholder value) bad_placeholder fine)
-value_of several value fine some = is_value value (passes (is_placeholder value) bad_placeholder fine)
+value_of k value fine some = is_value value (passes (is_placeholder value) bad_placeholder fine)
 
 one_plain : (word : List ℕ) → IsPlain false word → All (IsPlain false) (word ∷ [])
 one_plain word plain = All-cons (IsPlain false) word [] plain (All-nil (IsPlain false))
@@ -116,14 +101,11 @@ flag_spelled t e (long name) text good is =
 -- the flag that a label shows is among the options before
 flag_there : (before : List Declared) (b : Beside) (name : Name) → b ≢ besides.nothing → label_fault before b (Some name) ≡ None → have_flag before (Some name) ≡ true
 flag_there before besides.nothing name some none = absurd (some refl)
-flag_there before (a_flag c) name some none = passes _ bad_label none
-flag_there before negation name some none = passes _ bad_label none
+flag_there before b name some none = passes _ bad_label none
 
 is_a_flag : (k : Kind) → is_flag k ≡ true → k ≡ flag
 is_a_flag flag is = refl
-is_a_flag one is = absurd (true≢false (sym is))
-is_a_flag optional is = absurd (true≢false (sym is))
-is_a_flag several is = absurd (true≢false (sym is))
+is_a_flag k is = absurd (true≢false (sym is))
 
 -- ---- the forms
 
@@ -170,11 +152,12 @@ module _ (options : List Declared) (o : Declared) (e : Bool) (sound : is_sound o
   flag_form name is some text =
       let before = take there.0 options in
       let among = flag_there before o.beside name some (subst (λ n. label_fault before o.beside n ≡ None) is (at_place options o sound there).label) in
-      let found = Any-from_list_any (λ q. is_flag q.kind && has_name name q) before among in
-      let parts = and_parts (is_flag found.1.kind) (has_name name found.1) found.4 in
+      let found = Any-from_list_any (λ q. is_plain_flag q && has_name name q) before among in
+      let parts = and_parts (is_plain_flag found.1) (has_name name found.1) found.4 in
+      let plain = and_parts (is_flag found.1.kind) (is_nothing found.1.beside) parts.0 in
       let less : found.0 < there.0 = (let all = length-take-le there.0 options (omega (arith, there.1)) in omega (arith, found.2, all)) in
       let within : Contains options found.1 = (found.0, omega (arith, there.1, less), sym (get_or-take there.0 options found.0 found.1 less) ∙ found.3) in
-      flag_spelled (table options) e name text (name_good options found.1 sound within name parts.1) (kind_of_name options found.1 sound within name parts.1 ∙ is_a_flag found.1.kind parts.0)
+      flag_spelled (table options) e name text (name_good options found.1 sound within name parts.1) (kind_of_name options found.1 sound within name parts.1 ∙ is_a_flag found.1.kind plain.0)
 
   pub form_spelled : (shown : List ℕ) (words : List (List ℕ)) (item : Item) → LabelForm o shown words item → Spells (table options) e words (item ∷ [])
   form_spelled shown words item (short_flag c named is) =

@@ -4,6 +4,7 @@ pub mod Listed
 pub mod Texts
 pub mod FaultLemmas
 pub mod Sound
+pub mod Apart
 pub mod Declarable
 pub mod Fronts
 pub mod Cuts

@@ -1,10 +1,11 @@
 -- Values that options accept.
-use Rattle.lexopt_options_spec.proofs.Common.{◌≡◌, ◌==◌, ℕ, Bool, true, false, not, List, [], ◌∷◌, ◌++◌, position, Some, None, is_none, cond, option_and_then, slice_get, unwrap_or, refl, sym, ap, ◌∙◌}
-use Rattle.lexopt_options_spec.proofs.Common.{list_all, list_any, option_map, and_parts, and_from, not-true, or_left, false≢true, eq-eqb, dash, equals, BeginsWith, Declared, Reason, Words, accepts}
-use Rattle.lexopt_options_spec.proofs.Common.{listed, bad_list, is_blank_or_control, is_listable, is_placeholder, is_sound, list_fault, all_names, name_fault, names_fault, placeholder_fault}
+use Rattle.lexopt_options_spec.proofs.Common.{◌≡◌, ◌==◌, ℕ, Bool, true, not, List, [], ◌∷◌, ◌++◌, position, Some, None, is_none, cond, option_and_then, slice_get, unwrap_or, refl, sym, ap, ◌∙◌}
+use Rattle.lexopt_options_spec.proofs.Common.{list_all, list_any, option_map, and_parts, and_from, not-true, or_left, false≢true, eq-eqb, dash, equals, BeginsWith, Declared, Words, accepts}
+use Rattle.lexopt_options_spec.proofs.Common.{listed, bad_list, is_blank_or_control, is_listable, is_placeholder, is_sound, list_fault}
 use Rattle.lexopt_options_spec.specs.Legal.{Parsed, option, several, accepts_at, are_accepted, refused_value}
 use Rattle.lexopt_options_spec.proofs.Sound.{none_wrong}
 use Rattle.lexopt_options_spec.proofs.Tables.{pointwise_refl}
+use Rattle.lexopt_options_spec.proofs.FaultLemmas.{passes}
 
 -- ---- a value for each option
 
@@ -18,10 +19,6 @@ value_fits (listed []) none = absurd (let e : Some bad_list ≡ None = none in c
 value_fits (listed (value ∷ values)) none = or_left _ _ (pointwise_refl value)
 value_fits words none = refl
 
-only_none : (b : Bool) (r : Reason) → cond b None (Some r) ≡ None → b ≡ true
-only_none true r none = refl
-only_none false r none = absurd (let e : Some r ≡ None = none in cc)
-
 not_dashed : (value : List ℕ) → is_listable value ≡ true → ¬ BeginsWith dash value
 not_dashed [] is begins = begins
 not_dashed (b ∷ bs) is begins =
@@ -31,7 +28,7 @@ not_dashed (b ∷ bs) is begins =
 
 pub value_plain : (words : Words) → list_fault words ≡ None → ¬ BeginsWith dash (value_for words)
 value_plain (listed (value ∷ values)) none begins =
-    let all = only_none (list_all is_listable (value ∷ values)) bad_list none in
+    let all = passes (list_all is_listable (value ∷ values)) bad_list none in
     let parts = and_parts (is_listable value) (list_all is_listable values) all in
     not_dashed value parts.0 begins
 value_plain words none begins = begins

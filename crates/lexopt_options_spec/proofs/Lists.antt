@@ -74,6 +74,10 @@ pub not_empty : {X : Type 0} (l m : List X) (x : X) → l ++ x ∷ m ≡ [] → 
 not_empty [] m x is = let e : x ∷ m ≡ [] = is in cc
 not_empty (y ∷ l) m x is = let e : y ∷ (l ++ x ∷ m) ≡ [] = is in cc
 
+pub both_empty : {X : Type 0} (l m : List X) → l ++ m ≡ [] → (l ≡ []) × (m ≡ [])
+both_empty [] m is = (refl, is)
+both_empty (x ∷ l) m is = absurd (let e : x ∷ (l ++ m) ≡ [] = is in cc)
+
 -- a list is empty or has a last element
 pub data Ending {X : Type 0} (l : List X) : Type 0 where
   has_none : l ≡ [] → Ending l

@@ -1,7 +1,5 @@
 -- At most one name is the nearest.
-use Rattle.std.proofs.Common.{◌≡◌, ℕ, ◌<◌, List, Option, Some, None, refl, ap, subst, arith, ⊎_elim}
-use Rattle.std.specs.Str.{chars}
-use Rattle.std.proofs.lemmas.Bool.{cases_order}
+use Rattle.lexopt_options_spec.proofs.Common.{◌≡◌, ℕ, ◌<◌, List, Option, Some, None, refl, ap, subst, arith, ⊎_elim, chars, cases_order}
 use Rattle.lexopt_options_spec.specs.Nearest.{IsNearAt, IsNearestAt, IsNearest}
 
 same_distance : (names : List (List ℕ)) (typed : List ℕ) (i j m n : ℕ) → IsNearestAt names typed i m → IsNearestAt names typed j n → m ≡ n

@@ -1,24 +1,27 @@
 -- Where an option can come.
-use Rattle.lexopt_options_spec.proofs.Common.{and_from, eq-eqb, false≢true, or_right, append-nil, get_or_from_slice_get, slice_get_within, ◌≡◌, ◌≢◌, ◌<◌, ◌≤◌, ◌+◌, ◌||◌, is_none, ℕ, zero, suc, Bool}
+use Rattle.lexopt_options_spec.proofs.Common.{and_from, eq-eqb, false≢true, or_right, append-nil, get_or_from_slice_get, slice_get_within, ◌≡◌, ◌≢◌, ◌<◌, ◌≤◌, ◌+◌, ◌==◌, ◌||◌, is_none, unwrap_or, ℕ, zero, suc, Bool}
 use Rattle.lexopt_options_spec.proofs.Common.{true, false, List, [], ◌∷◌, ◌++◌, map, length, slice_get, slice_index_or, Some, None, encode_utf8, refl, sym, ap, subst, ◌∙◌, arith, inr, length-append}
 use Rattle.lexopt_options_spec.proofs.Common.{option_map, dash, BeginsWith, IsPlain, IsNormalIn, Name, short, long, Item, Kind, flag, one, optional, several, kind, Table, Declaration, Declared}
-use Rattle.lexopt_options_spec.proofs.Common.{has_name, index_of, is_sound, table, AreTaken, least, CanBeTaken}
-use Rattle.std.specs.Char.{IsScalar}
+use Rattle.lexopt_options_spec.proofs.Common.{has_name, index_of, is_sound, table, AreTaken, least, CanBeTaken, IsScalar}
 use Rattle.lexopt_line_spec.specs.Table as spec
 use Rattle.lexopt_line_spec.specs.Spelling as lines
 use Rattle.lexopt_line_spec.specs.Spelling.{exact, nothing, Completes, no_value, no_optional, next_word, several_words, Group, cluster, last_option, nothing_more, name_alone, Line, group, separator}
 use Rattle.lexopt_line_spec.proofs.SpellerTests.{dash_first, some_bytes}
 use Rattle.lexopt_line_spec.proofs.SpellerSound.{not_plain}
-use Rattle.lexopt_options_spec.specs.Legal.{Parsed, option, several, positional, parsed_item, positional_count, positional_words, most, IsWithin, MeansFront, accepts_at, are_accepted, is_required, occurs, refused_value}
+use Rattle.lexopt_options_spec.specs.Legal.{AreApart, Parsed, option, several, positional, parsed_item, positional_count, positional_words, most, IsWithin, MeansFront, accepts_at, are_accepted, is_required, occurs, refused_value}
 use Rattle.lexopt_options_spec.specs.Legal as legal
 use Rattle.lexopt_options_spec.specs.Completion.{spelling, AreText, IsOption, IsOpen, IsText, CanOccur}
+use Rattle.std.proofs.Math.Bool.{or-false}
+use Rattle.std.proofs.lemmas.Bool.{ne_eqb}
+use Rattle.std.proofs.lemmas.List.Folds.{list_any-append}
+use Rattle.lexopt_options_spec.proofs.Apart.{not_demanded, same_clash}
 use Rattle.lexopt_options_spec.proofs.Fronts.{same_parsed}
 use Rattle.lexopt_options_spec.proofs.Lists.{both_are, first_same}
 use Rattle.lexopt_options_spec.proofs.Listed.{accepted_append, accepted_front, accepts_here, list_good, one_accepted, single_accepted, value_fits, value_for, value_plain}
 use Rattle.lexopt_options_spec.proofs.Sound.{IsGoodName, found, good, option_there}
 use Rattle.lexopt_options_spec.proofs.Tables.{index_there, kind_of_name}
 use Rattle.lexopt_options_spec.proofs.Taken.{AreFilled, can_be_taken, words_append, words_count, words_same}
-use Rattle.lexopt_options_spec.proofs.OpenLines.{OpenLine, Parts, open_to_the_end, past_separator, dashes, continues, parts}
+use Rattle.lexopt_options_spec.proofs.OpenLines.{Parts, open_to_the_end, past_separator, dashes, parts}
 
 -- ---- words that are not values
 
@@ -95,9 +98,8 @@ words_none i (positional w) l is = absurd is
 words_none i s l is = refl
 
 occurs_once : (i : ℕ) (s : Parsed) (l : List Parsed) → IsOption i s → occurs i (s ∷ l) ≡ true
-occurs_once i (option j v) l is = ap (λ b. b || occurs i l) (eq-eqb j i is)
-occurs_once i (several j vs) l is = ap (λ b. b || occurs i l) (eq-eqb j i is)
 occurs_once i (positional w) l is = absurd is
+occurs_once i s l is = ap (λ b. b || occurs i l) (eq-eqb _ i is)
 
 -- its option accepts the value
 accepted_one : (options : List Declared) (i : ℕ) (k : Kind) (v : List ℕ) → accepts_at options i v ≡ true → refused_value options (parsed_for i k v) ≡ None
@@ -115,6 +117,12 @@ occurs_later i s l is = or_right (legal.is_option i s) _ is
 occurs_after : (i : ℕ) (l m : List Parsed) → occurs i m ≡ true → occurs i (l ++ m) ≡ true
 occurs_after i [] m is = is
 occurs_after i (s ∷ l) m is = occurs_later i s (l ++ m) (occurs_after i l m is)
+
+is_own : (i j : ℕ) (k : Kind) (v : List ℕ) → legal.is_option j (parsed_for i k v) ≡ (i == j)
+unfolding parsed_for
+is_own i j one v = refl
+is_own i j several v = refl
+is_own i j k v = refl
 
 -- ---- the required options
 
@@ -143,6 +151,11 @@ record RequiredEnd (options : List Declared) (on : Bool) (i : ℕ) (os : List De
   own_words : positional_words parsed ≡ more
   occur : (j : ℕ) → is_required os j ≡ true → occurs (i + j) parsed ≡ true
   accepted : are_accepted options parsed ≡ true
+  only : (j : ℕ) → is_required options j ≡ false → occurs j parsed ≡ false
+
+none_occurs : (j : ℕ) (words : List (List ℕ)) → occurs j (map positional words) ≡ false
+none_occurs j [] = refl
+none_occurs j (w ∷ ws) = none_occurs j ws
 
 required_end : (options : List Declared) (on : Bool) (i : ℕ) (os : List Declared) → AreNamed os → is_sound options ≡ true → AreText options → ((j : ℕ) → slice_get os j ≡ slice_get options (i + j)) → (more : List (List ℕ))
     → RequiredEnd options on i os more
@@ -156,6 +169,7 @@ required_end options on i [] named sound text same more = record {
   own_words = words_same more;
   occur = λ j is. absurd (false≢true is);
   accepted = words_accepted options more;
+  only = λ j free. none_occurs j more;
 }
 required_end options on i (o ∷ os) named sound text same more =
     go o.required refl (required_end options on (suc i) os named.1 sound text (λ j. same (suc j) ∙ ap (slice_get options) (omega arith)) more)
@@ -182,6 +196,7 @@ required_end options on i (o ∷ os) named sound text same more =
       own_words = rest.own_words;
       occur = each rest.parsed (λ needed. absurd (false≢true (sym is ∙ needed))) rest.occur;
       accepted = rest.accepted;
+      only = rest.only;
     }
     go true is rest =
         let at : slice_get options i ≡ Some o = ap (slice_get options) (omega arith) ∙ sym (same 0) in
@@ -202,6 +217,9 @@ required_end options on i (o ∷ os) named sound text same more =
           own_words = words_none i own rest.parsed (is_option i o.kind v) ∙ rest.own_words;
           occur = each (own ∷ rest.parsed) (λ needed. occurs_once i own rest.parsed (is_option i o.kind v)) (λ j needed. occurs_later (suc i + j) own rest.parsed (rest.occur j needed));
           accepted = accepted_more options i o.kind v rest.parsed (accepts_here options i o v at (value_fits o.words listed)) rest.accepted;
+          only = λ j free.
+              let demanded : is_required options i ≡ true = ap (λ x. unwrap_or (option_map (λ p. p.required) x) false) at ∙ is in
+              ap (λ b. b || occurs j rest.parsed) (is_own i j o.kind v ∙ ne_eqb i j (λ same. false≢true (sym free ∙ ap (is_required options) (sym same) ∙ demanded))) ∙ rest.only j free;
         }
 
 -- ---- where an option can come, each declared option can
@@ -216,15 +234,19 @@ later_positionals d words more l all means line whole =
     same_parsed d (words ++ more) all (l ++ map positional more) whole.items (means.items ++ map spec.positional more) whole.spelled line whole.parsed
     (both_are (parsed_item d.options) means.items (map spec.positional more) l (map positional more) means.parsed (words_said d.options more))
 
-open_line : (d : Declaration) (words : List (List ℕ)) (l : List Parsed) → (is : IsOpen d words l) → OpenLine exact (table d.options) d.short_equals words is.front.items
-open_line d words l is = go (parts exact (table d.options) d.short_equals words is.front.items is.front.spelled)
+-- more words come after words after which an option can come
+goes_on : (d : Declaration) (words : List (List ℕ)) (l : List Parsed) → (is : IsOpen d words l) → (more : List (List ℕ)) (later : List Item) → ¬ IsNormalIn false more → Line exact (table d.options) d.short_equals more later
+    → Line exact (table d.options) d.short_equals (words ++ more) (is.front.items ++ later)
+goes_on d words l is = go (parts exact (table d.options) d.short_equals words is.front.items is.front.spelled)
   where
-    go : Parts exact (table d.options) d.short_equals words is.front.items → OpenLine exact (table d.options) d.short_equals words is.front.items
+    go : Parts exact (table d.options) d.short_equals words is.front.items → (more : List (List ℕ)) (later : List Item) → ¬ IsNormalIn false more → Line exact (table d.options) d.short_equals more later
+        → Line exact (table d.options) d.short_equals (words ++ more) (is.front.items ++ later)
     go (open_to_the_end opens) = opens
     go (past_separator some later) = absurd (longer l (positional dashes) [] (sym (later_positionals d words (dashes ∷ []) l l is.front (later (dashes ∷ [])) is.with_separator)))
 
 pub can_occur : (d : Declaration) (words : List (List ℕ)) (l : List Parsed) (name : Name) (i : ℕ) → is_sound d.options ≡ true → AreText d.options → AreNamed d.options → IsOpen d words l
-    → are_accepted d.options l ≡ true → AreFilled d.positionals (positional_words l) → index_of d.options name ≡ Some i → IsText name → CanOccur d words (spelling name)
+    → are_accepted d.options l ≡ true → AreFilled d.positionals (positional_words l) → index_of d.options name ≡ Some i → IsText name
+    → (possible : CanOccur d words (spelling name)) × (AreApart d.options (λ k. occurs k l || (i == k)) → AreApart d.options (λ k. occurs k (possible.before ++ possible.parsed ∷ possible.later)))
 can_occur d words l name i sound utf8 names is accepted filled found text =
     let t = table d.options in
     let k = kind t name in
@@ -233,7 +255,6 @@ can_occur d words l name i sound utf8 names is accepted filled found text =
     let v = value_for o.words in
     let listed = list_good d.options i o sound here.1 in
     let more_words = filled.more in
-    let opens = open_line d words l is in
     let named = good d.options name i sound found in
     let end = required_end d.options d.short_equals 0 d.options names sound utf8 (λ j. ap (slice_get d.options) (omega arith)) more_words in
     let own : Parsed = parsed_for i k v in
@@ -241,33 +262,40 @@ can_occur d words l name i sound utf8 names is accepted filled found text =
     let all_words : positional_words (l ++ own ∷ end.parsed) ≡ positional_words l ++ more_words =
     words_append l (own ∷ end.parsed) ∙ ap (λ ws. positional_words l ++ ws) (words_none i own end.parsed (is_option i k v) ∙ end.own_words) in
     let counted : positional_count (l ++ own ∷ end.parsed) ≡ length (positional_words l ++ more_words) =
-    sym (words_count (l ++ own ∷ end.parsed)) ∙ ap length all_words in
-    record {
-      name = name;
-      index = i;
-      declared = found;
-      spelled = refl;
-      before = l;
-      parsed = own;
-      later = end.parsed;
-      rest = rest;
-      is = is_option i k v;
-      words_say = is.front;
-      line_means = record {
-        front = record {
-          items = is.front.items ++ item_for k v name ∷ end.items;
-          spelled = continues exact t d.short_equals words (spelling name ∷ rest) is.front.items (item_for k v name ∷ end.items) (not_normal name text rest) opens
-              (spelled_line t d.short_equals name v end.words end.items text named (value_plain o.words listed) end.calm end.line);
-          parsed = both_are (parsed_item d.options) is.front.items (item_for k v name ∷ end.items) l (own ∷ end.parsed) is.front.parsed
-              (both_are (parsed_item d.options) (item_for k v name ∷ []) end.items (own ∷ []) end.parsed (ap (λ s. s ∷ []) (is_parsed d.options name i k v found)) end.are);
-          within = subst (λ m. IsWithin m (most d.positionals)) (sym counted) filled.within;
+    sym (words_count (l ++ own ∷ end.parsed)) ∙ ap length all_words in (
+      record {
+        name = name;
+        index = i;
+        declared = found;
+        spelled = refl;
+        before = l;
+        parsed = own;
+        later = end.parsed;
+        rest = rest;
+        is = is_option i k v;
+        words_say = is.front;
+        line_means = record {
+          front = record {
+            items = is.front.items ++ item_for k v name ∷ end.items;
+            spelled = goes_on d words l is (spelling name ∷ rest) (item_for k v name ∷ end.items) (not_normal name text rest)
+                (spelled_line t d.short_equals name v end.words end.items text named (value_plain o.words listed) end.calm end.line);
+            parsed = both_are (parsed_item d.options) is.front.items (item_for k v name ∷ end.items) l (own ∷ end.parsed) is.front.parsed
+                (both_are (parsed_item d.options) (item_for k v name ∷ []) end.items (own ∷ []) end.parsed (ap (λ s. s ∷ []) (is_parsed d.options name i k v found)) end.are);
+            within = subst (λ m. IsWithin m (most d.positionals)) (sym counted) filled.within;
+          };
+          enough = subst (λ m. least d.positionals ≤ m) (sym counted) filled.enough;
+          complete = λ j needed. occurs_after j l (own ∷ end.parsed) (occurs_later j own end.parsed (subst (λ m. occurs m end.parsed ≡ true) (omega arith) (end.occur j needed)));
+          accepted = accepted_append d.options l (own ∷ end.parsed) accepted (accepted_more d.options i k v end.parsed (accepts_here d.options i o v here.1 (value_fits o.words listed)) end.accepted);
+          taken = subst (AreTaken d.positionals) (sym all_words) filled.taken;
         };
-        enough = subst (λ m. least d.positionals ≤ m) (sym counted) filled.enough;
-        complete = λ j needed. occurs_after j l (own ∷ end.parsed) (occurs_later j own end.parsed (subst (λ m. occurs m end.parsed ≡ true) (omega arith) (end.occur j needed)));
-        accepted = accepted_append d.options l (own ∷ end.parsed) accepted (accepted_more d.options i k v end.parsed (accepts_here d.options i o v here.1 (value_fits o.words listed)) end.accepted);
-        taken = subst (AreTaken d.positionals) (sym all_words) filled.taken;
-      };
-    }
+      },
+      λ apart a b.
+          same_clash d.options (λ m. occurs m (l ++ own ∷ end.parsed)) (λ m. occurs m l || (i == m)) (λ m some.
+          list_any-append (legal.is_option m) l (own ∷ end.parsed)
+          ∙ ap (λ c. occurs m l || (c || occurs m end.parsed)) (is_own i m k v)
+          ∙ ap (λ c. occurs m l || ((i == m) || c)) (end.only m (not_demanded d.options m sound some)) ∙ ap (λ c. occurs m l || c) (or-false (i == m))) a b
+          ∙ apart a b,
+    )
 
 -- ---- where no option can come, no declared option can
 
@@ -304,7 +332,7 @@ occurs_open d words s possible = go (parts exact (table d.options) d.short_equal
       front = possible.words_say;
       with_separator = record {
         items = possible.words_say.items ++ [];
-        spelled = continues exact (table d.options) d.short_equals words (dashes ∷ []) possible.words_say.items [] (dashes_calm []) opens (separator []);
+        spelled = opens (dashes ∷ []) [] (dashes_calm []) (separator []);
         parsed = ap (map (parsed_item d.options)) (append-nil possible.words_say.items) ∙ possible.words_say.parsed;
         within = possible.words_say.within;
       };

@@ -2,10 +2,7 @@
 use Rattle.lexopt_options_spec.proofs.Common.{◌≡◌, ◌<◌, ◌==◌, ℕ, zero, suc, Bool, not, true, false, ◌||◌, ◌&&◌, ◌⊎◌, ◌+◌, List, [], ◌∷◌, filter, length, nat_eq, Some, None, if◌then◌else◌, refl, sym}
 use Rattle.lexopt_options_spec.proofs.Common.{ap, subst, ◌∙◌, arith, inl, inr, ⊎_elim, Contains, list_any, starts_with, position_or_len, eq-eqb, false≢true, lt-ltb, or_left, or_right}
 use Rattle.lexopt_options_spec.proofs.Common.{Contains-append_left, Contains-append_right, Contains-append_cases, Name, Declaration, Declared, has_name, index_of, is_name, is_one_of, is_sound}
-use Rattle.lexopt_options_spec.proofs.Common.{names_of, Parsed, are_accepted, positional_words}
-use Rattle.std.specs.Cmp.Lexicographic.{pointwise, same_text}
-use Rattle.std.specs.Str.{IsUtf8}
-use Rattle.std.proofs.lemmas.List.Folds.{list_any-append}
+use Rattle.lexopt_options_spec.proofs.Common.{names_of, Parsed, are_accepted, positional_words, pointwise, same_text, IsUtf8, list_any-append}
 use Rattle.lexopt_options_spec.specs.Completion.{AreText, CanOccur, Completes, IsOpen, Spelled, is_offered, spelled, spelled_by, spelling, spellings, texts}
 use Rattle.lexopt_options_spec.proofs.Sound.{found, either}
 use Rattle.lexopt_options_spec.proofs.Tables.{name_is, name_refl, pointwise_refl}
@@ -124,7 +121,7 @@ pub offered_occurs : (d : Declaration) (words : List (List ℕ)) (l : List Parse
 offered_occurs d words l s sound text names is accepted filled has =
     let n = named d.options s has in
     let i = an_index n.0 d.options n.2 in
-    subst (CanOccur d words) (sym n.1) (can_occur d words l n.0 i.0 sound text names is accepted filled i.1 (text n.0 n.2))
+    subst (CanOccur d words) (sym n.1) (can_occur d words l n.0 i.0 sound text names is accepted filled i.1 (text n.0 n.2)).0
 
 pub occurs_offered : (d : Declaration) (words : List (List ℕ)) (t : List ℕ) → CanOccur d words t → (s : Spelled) × Contains (spellings d.options) s × (s.text ≡ t)
 occurs_offered d words t possible =

@@ -33,8 +33,7 @@ front_of front word rest line others same shorter =
     (drop n line, sym (take-append-drop n line) ∙ ap (λ l. l ++ drop n line) e)
 
 not_both : (limit : ℕ) (l : Line) (w : List ℕ) (m : Line) → limit < line_columns (l ++ w ∷ []) → line_columns (l ++ w ∷ []) ≤ line_columns m → (line_columns m ≤ limit) ⊎ (length m ≡ 1) → 0 < length l → length l < length m → ⊥
-not_both limit l w m over wide (inl narrow) some shorter = absurd (omega arith)
-not_both limit l w m over wide (inr one) some shorter = absurd (omega arith)
+not_both limit l w m over wide fits some shorter = grind arith
 
 full_tail : (limit : ℕ) (l : Line) (ls : List Line) → AreFull limit (l ∷ ls) → AreFull limit ls
 full_tail limit l [] full = tt
@@ -55,10 +54,8 @@ not_shorter limit l ((w ∷ ws) ∷ ls) m others fit full fits same shorter =
 
 one_wrapping : (limit : ℕ) (ls ms : List Line) → words_in ls ≡ words_in ms → AllFit limit ls → AllFit limit ms → AreFull limit ls → AreFull limit ms → ls ≡ ms
 one_wrapping limit [] [] same f g h k = refl
-one_wrapping limit [] ([] ∷ ms) same f g h k = absurd (omega (arith, g.0.words))
-one_wrapping limit [] ((w ∷ ws) ∷ ms) same f g h k = absurd (let e : [] ≡ w ∷ (ws ++ words_in ms) = same in cc)
-one_wrapping limit ([] ∷ ls) [] same f g h k = absurd (omega (arith, f.0.words))
-one_wrapping limit ((w ∷ ws) ∷ ls) [] same f g h k = absurd (let e : w ∷ (ws ++ words_in ls) ≡ [] = same in cc)
+one_wrapping limit [] (m ∷ ms) same f g h k = absurd (omega (arith, g.0.words, ap length same ∙ length-append m (words_in ms)))
+one_wrapping limit (l ∷ ls) [] same f g h k = absurd (omega (arith, f.0.words, ap length same, length-append l (words_in ls)))
 one_wrapping limit (l ∷ ls) (m ∷ ms) same f g h k =
     let a : length l ≡ length m = (let no_less = not_shorter limit l ls m (words_in ms) f h g.0 same in let no_more = not_shorter limit m ms l (words_in ls) g k f.0 (sym same) in omega (arith, no_less, no_more)) in
     let e : l ≡ m = sym (take-append_seam l (words_in ls)) ∙ ap (take (length l)) same ∙ ap (λ n. take n (m ++ words_in ms)) a ∙ take-append_seam m (words_in ms) in
@@ -85,11 +82,8 @@ one_paragraph width content s t a b = a.written ∙ ap paragraph (same_lines wid
 -- if each has only one text, all have only one
 same_texts : {X : Type 0} (Is : X → List ℕ → Type 0) → ((x : X) (s t : List ℕ) → Is x s → Is x t → s ≡ t) → (xs : List X) (ss ts : List (List ℕ)) → AllZip Is xs ss → AllZip Is xs ts → ss ≡ ts
 same_texts Is one [] [] [] a b = refl
-same_texts Is one [] [] (t ∷ ts) a b = absurd b
-same_texts Is one [] (s ∷ ss) ts a b = absurd a
-same_texts Is one (x ∷ xs) [] ts a b = absurd a
-same_texts Is one (x ∷ xs) (s ∷ ss) [] a b = absurd b
 same_texts Is one (x ∷ xs) (s ∷ ss) (t ∷ ts) a b = ap (λ (e : List ℕ). e ∷ ss) (one x s t a.0 b.0) ∙ ap (λ (es : List (List ℕ)). t ∷ es) (same_texts Is one xs ss ts a.1 b.1)
+same_texts Is one xs ss ts a b = search
 
 pub one_usage : (d : Declaration) (width : ℕ) (s t : List ℕ) → IsUsage width d s → IsUsage width d t → s ≡ t
 one_usage d width s t a b =

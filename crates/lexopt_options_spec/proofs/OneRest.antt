@@ -1,16 +1,14 @@
 -- Words have one rest, and what is read of them before it is what the front says.
 use Rattle.lexopt_options_spec.proofs.Common.{◌≡◌, ◌≢◌, ◌≤◌, ◌+◌, ◌⊎◌, ℕ, Bool, true, false, List, [], ◌∷◌, ◌++◌, length, map, Option, Some, None, refl, sym, ap, subst, ◌∙◌, inl, inr, ⊎_elim}
 use Rattle.lexopt_options_spec.proofs.Common.{append-nil, append_assoc, arith, true≢false, false≢true, append_cancel_right, length-append, same_Some, IsLine, IsPlain, TailFits, UnreadLine, dash}
-use Rattle.lexopt_options_spec.proofs.Common.{no_tail, Item, Name, Table, kind, IsReading, ReadsFirst, ReadsItems, first_positional, first_flag, first_one, first_optional, first_several, item_after}
-use Rattle.lexopt_options_spec.proofs.Common.{items_of_replies, option_reply, start, Spells, next_same, one_line_left, one_more_item, says_items, spelled_shows, no_other_reading, option_reading}
-use Rattle.lexopt_options_spec.proofs.Common.{some_reading, reads_last, reads_refused, says_positional, step_line, shown_read, Declaration, Declared, index_of, table, IsWithin, MeansFront, Parsed}
-use Rattle.lexopt_options_spec.proofs.Common.{are_accepted, counts, is_option, most, positional_count, parsed_item, Says, IsOfOption, Mistake, ReadsUpTo, Stops, invalid_value, not_declared}
-use Rattle.lexopt_options_spec.proofs.Common.{value_of_flag, no_value, not_accepted}
+use Rattle.lexopt_options_spec.proofs.Common.{no_tail, Item, Name, Table, kind, IsReading, ReadsFirst, ReadsItems, first_positional, item_after, items_of_replies, option_reply, start, Spells}
+use Rattle.lexopt_options_spec.proofs.Common.{next_same, one_line_left, one_more_item, says_items, spelled_shows, no_other_reading, option_reading, some_reading, reads_last, reads_refused}
+use Rattle.lexopt_options_spec.proofs.Common.{says_positional, step_line, shown_read, Declaration, Declared, index_of, table, IsWithin, MeansFront, Parsed, are_accepted, counts, is_option, most}
+use Rattle.lexopt_options_spec.proofs.Common.{positional_count, parsed_item, Says, IsOfOption, Mistake, ReadsUpTo, Stops, invalid_value, not_declared, value_of_flag, no_value, not_accepted, Next}
+use Rattle.lexopt_options_spec.proofs.Common.{NextStep, Reply, after_separator, next_word, no_word_left, reads_separator, word_left, IsOf}
 use Rattle.lexopt_spec.specs.Steps as steps
-use Rattle.lexopt_spec.specs.Steps.{Next, NextStep, Reply, after_separator, next_word, no_word_left, reads_separator, word_left}
 use Rattle.lexopt_spec.specs.Runs as calls
 use Rattle.lexopt_line_spec.specs.Table as spec
-use Rattle.lexopt_line_spec.specs.Speller.{IsOf}
 use Rattle.lexopt_options_spec.specs.Legal as legal
 use Rattle.lexopt_options_spec.specs.Rest.{EndsSeparated, HaveNoRest, IsSplit, IsWithoutRest, RestStart, separated, surplus}
 use Rattle.lexopt_options_spec.proofs.Cuts.{enough, items_cut}
@@ -19,7 +17,7 @@ use Rattle.lexopt_options_spec.proofs.Growing.{EndsSo, ended_before, ends_so, it
 use Rattle.lexopt_options_spec.proofs.Lists.{Later, first_is, first_none, first_same, last_item, not_empty, same_last, split}
 use Rattle.lexopt_options_spec.proofs.Occurs.{dashes_calm}
 use Rattle.lexopt_options_spec.proofs.OpenLines.{dashes}
-use Rattle.lexopt_options_spec.proofs.PastSeparator.{ended_stays, items_line, items_stay, named_open, open_before, option_open}
+use Rattle.lexopt_options_spec.proofs.PastSeparator.{ended_stays, first_stays, items_line, items_stay, named_open, open_before, option_open}
 use Rattle.lexopt_options_spec.proofs.ReadItems.{ReadsAll}
 use Rattle.lexopt_options_spec.proofs.Rests.{word_is, word_read}
 use Rattle.lexopt_options_spec.proofs.Sound.{known}
@@ -42,12 +40,11 @@ word_counts options (spec.many name values) s is = ap counts (known (λ i. legal
 
 same_count : (options : List Declared) (items : List Item) (l : List Parsed) → map (parsed_item options) items ≡ map (λ s. Some s) l → count_items items ≡ positional_count l
 same_count options [] [] is = refl
-same_count options [] (s ∷ l) is = absurd (let e : [] ≡ Some s ∷ map (λ x. Some x) l = is in cc)
-same_count options (x ∷ items) [] is = absurd (let e : parsed_item options x ∷ map (parsed_item options) items ≡ [] = is in cc)
 same_count options (x ∷ items) (s ∷ l) is =
     let parts = first_same (parsed_item options x) (Some s) (map (parsed_item options) items) (map (λ x. Some x) l) is in
     let one = word_counts options x s parts.0 in
     let others = same_count options items l parts.1 in omega (arith, one, others)
+same_count options items l is = cc
 
 -- the last of these items is this positional
 last_word : (options : List Declared) (items : List Item) (l : List Parsed) (word : List ℕ) → map (parsed_item options) items ≡ map (λ s. Some s) (l ++ legal.positional word ∷ [])
@@ -84,14 +81,8 @@ items_split t u w [] ys reads = (u, refl, reads)
 items_split t u w (x ∷ xs) ys (v, first, others) = let rest = items_split t v w xs ys others in (rest.0, (v, first, rest.1), rest.2)
 
 -- a positional is read by one call
-word_first : (t : Table) (u w : UnreadLine) (item : Item) (word : List ℕ) → item ≡ spec.positional word → ReadsFirst t u item w → NextStep u (steps.positional word) w
-word_first t u w item word is (first_positional other v step) =
-    let same : other ≡ word = (let e : spec.positional other ≡ spec.positional word = is in cc) in
-    subst (λ x. NextStep u (steps.positional x) w) same (enough NextStep u (steps.positional other) w step (λ none. cc))
-word_first t u w item word is (first_flag name v k step) = absurd (let e : spec.option name None ≡ spec.positional word = is in cc)
-word_first t u w item word is (first_one name value v x k step takes) = absurd (let e : spec.option name (Some value) ≡ spec.positional word = is in cc)
-word_first t u w item word is (first_optional name value v x k step takes) = absurd (let e : spec.option name value ≡ spec.positional word = is in cc)
-word_first t u w item word is (first_several name n values v x k step few takes) = absurd (let e : spec.many name values ≡ spec.positional word = is in cc)
+word_first : (t : Table) (u w : UnreadLine) (word : List ℕ) → ReadsFirst t u (spec.positional word) w → NextStep u (steps.positional word) w
+word_first t u w word (first_positional other v step) = enough NextStep u (steps.positional word) w step (λ none. cc)
 
 -- before the rest, the line u does not have the separator behind it, where that ends the front
 abbrev pub IsBefore : RestStart → UnreadLine → Type 0
@@ -126,7 +117,7 @@ surplus_read d words front word more split =
     let read = spelled_read t e short (items ++ spec.positional word ∷ []) (subst (Spells t e short) own.1 split.begins.spelled) in
     let all = read.1 in
     let parts = items_split t (start e short) all.there items (spec.positional word ∷ []) all.reads in
-    let step = word_first t parts.0 all.there (spec.positional word) word refl (subst (ReadsFirst t parts.0 (spec.positional word)) (sym parts.2.2) parts.2.1) in
+    let step = word_first t parts.0 all.there word (subst (ReadsFirst t parts.0 (spec.positional word)) (sym parts.2.2) parts.2.1) in
     let cut = items_cut t (start e short) all.there (items ++ spec.positional word ∷ []) [] all.there.words refl all.reads in
     let none = no_words parts.0 all.there read.0 cut.before cut.words_are step (ends_so all.there read.0 all.ends) in
     let whole : short ++ more ≡ words = append_assoc front (word ∷ []) more ∙ sym split.words_are in
@@ -149,16 +140,16 @@ surplus_read d words front word more split =
         absurd (dashes_calm [] (subst (IsPlain false) (sym same) ((word_read u w word step).plain not)))
 
 -- the words before the separator are read, and no word is left
-record OpenRead (d : Declaration) (before : List (List ℕ)) (l : List Parsed) : Type 0 where
-  items : List Item
-  parsed : map (parsed_item d.options) items ≡ map (λ s. Some s) l
-  there : UnreadLine
-  reads : ReadsItems (table d.options) (start d.short_equals before) items there
-  none : there.tail ≡ no_tail
-  not : there.ended ≡ false
-  empty : there.words ≡ []
+pub record OpenRead (d : Declaration) (before : List (List ℕ)) (l : List Parsed) : Type 0 where
+  pub items : List Item
+  pub parsed : map (parsed_item d.options) items ≡ map (λ s. Some s) l
+  pub there : UnreadLine
+  pub reads : ReadsItems (table d.options) (start d.short_equals before) items there
+  pub none : there.tail ≡ no_tail
+  pub not : there.ended ≡ false
+  pub empty : there.words ≡ []
 
-open_read : (d : Declaration) (before : List (List ℕ)) (l : List Parsed) → Says d before l → Says d (before ++ dashes ∷ []) l → OpenRead d before l
+pub open_read : (d : Declaration) (before : List (List ℕ)) (l : List Parsed) → Says d before l → Says d (before ++ dashes ∷ []) l → OpenRead d before l
 open_read d before l own with_separator =
     let t = table d.options in
     let e = d.short_equals in
@@ -258,7 +249,7 @@ in_front start_of d words l word more own before u read yet final xs reading =
         let parts = items_split t s u own.items (spec.positional word ∷ k) (subst (λ xs. ReadsItems t s xs u) are read.read) in
         let there = one_line_left t s parts.0 own.there own.items parts.1 own.reads in
         let first = parts.2 in
-        let step = subst (λ x. NextStep x (steps.positional word) first.0) there (word_first t parts.0 first.0 (spec.positional word) word refl first.1) in
+        let step = subst (λ x. NextStep x (steps.positional word) first.0) there (word_first t parts.0 first.0 word first.1) in
         let after = (next_same own.there (steps.positional word) (steps.positional word) first.0 own.after step own.step).1 in
         let line = items_line t s first.0 (own.items ++ spec.positional word ∷ []) tt (one_more_item t s parts.0 first.0 own.items (spec.positional word) parts.1 first.1) in
         true≢false (sym (items_stay t first.0 u k line first.2 (ap (λ (x : UnreadLine). x.ended) after ∙ own.ends.1)) ∙ is_before refl)
@@ -401,11 +392,11 @@ not_counted s index is = refl
 
 -- an option is read before the separator
 first_item_open : (t : Table) (u w : UnreadLine) (item : Item) → is_word item ≡ 0 → IsLine u → ReadsFirst t u item w → u.ended ≡ false
-first_item_open t u w item none line (first_positional word v step) = absurd (omega (arith, none))
-first_item_open t u w item none line (first_flag name v k step) = named_open u w name line step
-first_item_open t u w item none line (first_one name word v x k step takes) = named_open u v name line step
-first_item_open t u w item none line (first_optional name word v x k step takes) = named_open u v name line step
-first_item_open t u w item none line (first_several name n values v x k step few takes) = named_open u v name line step
+first_item_open t u w item none line reads = before u.ended refl
+  where
+    before : (b : Bool) → u.ended ≡ b → u.ended ≡ false
+    before false is = is
+    before true is = absurd (true≢false (sym (first_stays t u w item line reads is) ∙ option_open t u w item line reads (λ word same. let e = ap is_word same in omega (arith, e, none))))
 
 -- where an option was read last, the separator was not read
 pub last_open : (d : Declaration) (s u : UnreadLine) (before : List Parsed) (last : Parsed) → IsLine s → ReadsUpTo d s (before ++ last ∷ []) u → counts last ≡ 0 → u.ended ≡ false

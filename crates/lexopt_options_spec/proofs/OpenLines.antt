@@ -9,14 +9,6 @@ use Rattle.lexopt_options_spec.proofs.Growing.{front_more}
 abbrev pub dashes : List ℕ
 dashes = dash ∷ dash ∷ []
 
--- words that spell these items, without a separator
-pub data OpenLine (letters : Letters) (t : Table) (short_equals : Bool) : List (List ℕ) → List Item → Type 0 where
-  nothing_yet : OpenLine letters t short_equals [] []
-  word_first : (w : List ℕ) (words : List (List ℕ)) (items : List Item) → IsPlain false w → OpenLine letters t short_equals words items
-      → OpenLine letters t short_equals (w ∷ words) (positional w ∷ items)
-  group_first : (words left : List (List ℕ)) (front items : List Item) → Group letters t short_equals words front left → OpenLine letters t short_equals left items
-      → OpenLine letters t short_equals words (front ++ items)
-
 -- ---- more words after the line
 
 same_more : (l m more : List (List ℕ)) → l ≡ m → l ++ more ≡ m ++ more
@@ -50,21 +42,13 @@ group_more letters t short_equals words items left more calm (spelling.long_opti
     spelling.long_option text bytes name after item (others ++ more) (same_more words ((dash ∷ dash ∷ text) ∷ others) more are) is none named
     (completes_more (kind t (long name)) (long name) after others left item more calm completes) items_are
 
--- more words come after the line
-pub continues : (letters : Letters) (t : Table) (short_equals : Bool) (words more : List (List ℕ)) (front items : List Item) → ¬ IsNormalIn false more → OpenLine letters t short_equals words front
-    → Line letters t short_equals more items → Line letters t short_equals (words ++ more) (front ++ items)
-continues letters t short_equals words more front items calm nothing_yet line = line
-continues letters t short_equals words more front items calm (word_first w ws others plain opens) line =
-    plain_word w (ws ++ more) (others ++ items) plain (continues letters t short_equals ws more others items calm opens line)
-continues letters t short_equals words more all items calm (group_first ws left front others first opens) line =
-    subst (Line letters t short_equals (ws ++ more)) (sym (append_assoc front others items))
-    (group (ws ++ more) (left ++ more) front (others ++ items) (group_more letters t short_equals ws front left more (λ none. calm) first) (continues letters t short_equals left more others items calm opens line))
-
 -- ---- a line with a separator
 
--- a line has no separator, or all words that come after it are positionals
+-- a line has no separator, and more words can come after it, or all words that come after it are
+-- positionals
 pub data Parts (letters : Letters) (t : Table) (short_equals : Bool) (words : List (List ℕ)) (items : List Item) : Type 0 where
-  open_to_the_end : OpenLine letters t short_equals words items → Parts letters t short_equals words items
+  open_to_the_end : ((more : List (List ℕ)) (later : List Item) → ¬ IsNormalIn false more → Line letters t short_equals more later
+      → Line letters t short_equals (words ++ more) (items ++ later)) → Parts letters t short_equals words items
   past_separator : words ≢ [] → ((more : List (List ℕ)) → Line letters t short_equals (words ++ more) (items ++ map positional more)) → Parts letters t short_equals words items
 
 group_some : (letters : Letters) (t : Table) (short_equals : Bool) (words left : List (List ℕ)) (items : List Item) → Group letters t short_equals words items left → words ≢ []
@@ -72,19 +56,21 @@ group_some letters t short_equals words left items (cluster bytes others are oth
 group_some letters t short_equals words left items (spelling.long_option text bytes name after item others are is no_name named completes items_are) none = let e : (dash ∷ dash ∷ text) ∷ others ≡ [] = sym are ∙ none in cc
 
 pub parts : (letters : Letters) (t : Table) (short_equals : Bool) (words : List (List ℕ)) (items : List Item) → Line letters t short_equals words items → Parts letters t short_equals words items
-parts letters t short_equals words items no_words = open_to_the_end nothing_yet
+parts letters t short_equals words items no_words = open_to_the_end (λ more later calm line. line)
 parts letters t short_equals words items (plain_word w ws others plain line) = word (parts letters t short_equals ws others line)
   where
     word : Parts letters t short_equals ws others → Parts letters t short_equals (w ∷ ws) (positional w ∷ others)
-    word (open_to_the_end opens) = open_to_the_end (word_first w ws others plain opens)
+    word (open_to_the_end goes_on) = open_to_the_end (λ more later calm line. plain_word w (ws ++ more) (others ++ later) plain (goes_on more later calm line))
     word (past_separator some later) = past_separator (λ none. let e : w ∷ ws ≡ [] = none in cc) (λ more. plain_word w (ws ++ more) (others ++ map positional more) plain (later more))
 parts letters t short_equals words items (group ws left front others first line) = after (parts letters t short_equals left others line)
   where
+    next : (more : List (List ℕ)) (later : List Item) → (left ≡ [] → ¬ IsNormalIn false more) → Line letters t short_equals (left ++ more) (others ++ later) → Line letters t short_equals (ws ++ more) ((front ++ others) ++ later)
+    next more later calm line =
+        subst (Line letters t short_equals (ws ++ more)) (sym (append_assoc front others later))
+        (group (ws ++ more) (left ++ more) front (others ++ later) (group_more letters t short_equals ws front left more calm first) line)
+
     after : Parts letters t short_equals left others → Parts letters t short_equals ws (front ++ others)
-    after (open_to_the_end opens) = open_to_the_end (group_first ws left front others first opens)
-    after (past_separator some later) = past_separator (group_some letters t short_equals ws left front first)
-        (λ more.
-        subst (Line letters t short_equals (ws ++ more)) (sym (append_assoc front others (map positional more)))
-        (group (ws ++ more) (left ++ more) front (others ++ map positional more) (group_more letters t short_equals ws front left more (λ none. absurd (some none)) first) (later more)))
+    after (open_to_the_end goes_on) = open_to_the_end (λ more later calm line. next more later (λ none. calm) (goes_on more later calm line))
+    after (past_separator some later) = past_separator (group_some letters t short_equals ws left front first) (λ more. next more (map positional more) (λ none. absurd (some none)) (later more))
 parts letters t short_equals words items (separator ws) = past_separator (λ none. let e : dashes ∷ ws ≡ [] = none in cc)
     (λ more. subst (Line letters t short_equals (dashes ∷ (ws ++ more))) (map-append positional ws more) (separator (ws ++ more)))

@@ -1,11 +1,12 @@
 -- Once the separator was read, only positionals are read.
 use Rattle.lexopt_options_spec.proofs.Common.{◌≡◌, ◌≢◌, ℕ, true, false, List, [], ◌∷◌, refl, sym, ap, subst, ◌∙◌, true≢false, IsLine, Tail, TailFits, UnreadLine, ValuesStep, ReadsFirst, ReadsItems}
-use Rattle.lexopt_options_spec.proofs.Common.{first_positional, first_flag, first_one, first_optional, first_several, option_reply, full_step, option_given}
+use Rattle.lexopt_options_spec.proofs.Common.{first_positional, first_flag, first_one, first_optional, first_several, option_reply, option_given}
 use Rattle.lexopt_spec.specs.Steps as steps
 use Rattle.lexopt_spec.specs.Steps.{Next, NextStep, OptionalStep, Reply, ReadsPositional, ValueStep, no_word_left, word_left, joined_value, equals_value, next_in_cluster, after_separator, next_word, pending_value, takes_word, nothing_to_take, optional_pending, optional_none}
 use Rattle.lexopt_line_spec.specs.Table.{Item, Name, Table, long, positional, short}
 use Rattle.lexopt_options_spec.proofs.Cuts.{enough}
-use Rattle.lexopt_options_spec.proofs.Growing.{full_ended, grows_first, option_before_separator}
+use Rattle.lexopt_options_spec.proofs.Growing.{grows_first, option_before_separator, hands_ended}
+use Rattle.lexopt_line_spec.proofs.HandedItems.{optional_hands, value_hands, values_hands}
 
 no_reply : (u v : UnreadLine) (r : Reply) → ReadsPositional u r v → ((word : List ℕ) → r ≢ steps.positional word) → r ≢ steps.end → ⊥
 no_reply u v r (no_word_left none is after) other nor = nor is
@@ -28,25 +29,16 @@ ended_stays u v word (after_separator none is (no_word_left empty r_is after)) e
 ended_stays u v word (after_separator none is (word_left w ws some r_is after)) ended = ap (λ (x : UnreadLine). x.ended) after ∙ ended
 ended_stays u v word (next_word none not reads) ended = absurd (true≢false (sym ended ∙ not))
 
-value_ended : (v w : UnreadLine) (r : Reply) → ValueStep v r w → w.ended ≡ v.ended
-value_ended v w r (pending_value value by has r_is after) = ap (λ (x : UnreadLine). x.ended) after
-value_ended v w r (takes_word x xs none some r_is after) = ap (λ (x : UnreadLine). x.ended) after
-value_ended v w r (nothing_to_take none empty r_is after) = ap (λ (x : UnreadLine). x.ended) after
-
-optional_ended : (v w : UnreadLine) (r : Reply) → OptionalStep v r w → w.ended ≡ v.ended
-optional_ended v w r (optional_pending value by has r_is after) = ap (λ (x : UnreadLine). x.ended) after
-optional_ended v w r (optional_none none r_is after) = ap (λ (x : UnreadLine). x.ended) after
-
 -- an option and its values are read before the separator
 pub option_open : (t : Table) (u w : UnreadLine) (item : Item) → IsLine u → ReadsFirst t u item w → ((word : List ℕ) → item ≢ positional word) → w.ended ≡ false
 option_open t u w item line (first_positional word v step) other = absurd (other word refl)
 option_open t u w item line (first_flag name v k step) other = option_before_separator u w name line step
 option_open t u w item line (first_one name word v x k step takes) other =
-    value_ended v w (steps.taken word) (enough ValueStep v (steps.taken word) w takes (λ none. cc)) ∙ option_before_separator u v name line step
+    hands_ended v w (word ∷ []) (value_hands v (steps.taken word) w (enough ValueStep v (steps.taken word) w takes (λ none. cc))) ∙ option_before_separator u v name line step
 option_open t u w item line (first_optional name word v x k step takes) other =
-    optional_ended v w (steps.maybe word) (enough OptionalStep v (steps.maybe word) w takes (λ none. cc)) ∙ option_before_separator u v name line step
+    hands_ended v w _ (optional_hands v (steps.maybe word) w (enough OptionalStep v (steps.maybe word) w takes (λ none. cc))) ∙ option_before_separator u v name line step
 option_open t u w item line (first_several name n values v x k step few takes) other =
-    full_ended v w (steps.items values) (full_step n v w (steps.items values) few (enough (ValuesStep n) v (steps.items values) w takes (λ none. cc))) ∙ option_before_separator u v name line step
+    hands_ended v w values (values_hands n v (steps.items values) w (enough (ValuesStep n) v (steps.items values) w takes (λ none. cc))) ∙ option_before_separator u v name line step
 
 pub items_line : (t : Table) (u w : UnreadLine) (items : List Item) → IsLine u → ReadsItems t u items w → IsLine w
 items_line t u w [] line is = subst IsLine (sym is) line
@@ -57,7 +49,7 @@ pub named_open : (u v : UnreadLine) (name : Name) → IsLine u → Next u (optio
 named_open u v (short c) line step = open_before u v (steps.short c) line (option_given u v (short c) step) (λ word is. cc) (λ is. cc)
 named_open u v (long text) line step = open_before u v (steps.long text) line (option_given u v (long text) step) (λ word is. cc) (λ is. cc)
 
-first_stays : (t : Table) (u w : UnreadLine) (item : Item) → IsLine u → ReadsFirst t u item w → u.ended ≡ true → w.ended ≡ true
+pub first_stays : (t : Table) (u w : UnreadLine) (item : Item) → IsLine u → ReadsFirst t u item w → u.ended ≡ true → w.ended ≡ true
 first_stays t u w item line (first_positional word v step) ended = ended_stays u w word (enough NextStep u (steps.positional word) w step (λ none. cc)) ended
 first_stays t u w item line (first_flag name v k step) ended = absurd (true≢false (sym ended ∙ named_open u w name line step))
 first_stays t u w item line (first_one name word v x k step takes) ended = absurd (true≢false (sym ended ∙ named_open u v name line step))

@@ -1,30 +1,23 @@
 -- Words that are read up to a place, and what the next word is there.
-use Rattle.lexopt_options_spec.proofs.Common.{◌≡◌, ◌≢◌, ℕ, Bool, true, false, List, [], ◌∷◌, ◌++◌, map, Option, Some, None, refl, sym, ap, subst, ◌∙◌, arith, inl, option_map, false≢true, append-nil}
-use Rattle.lexopt_options_spec.proofs.Common.{no_tail, UnreadLine, IsLine, IsPlain, IsNormalIn, pending, spelling, ValuesStep, Step, Item, Name, kind, ReadsFirst, ReadsItems, first_positional}
-use Rattle.lexopt_options_spec.proofs.Common.{first_one, first_several, option_reply, start, IsDue, one_more_item, step_line, Declaration, index_of, is_sound, table, IsWithin, Parsed, most}
-use Rattle.lexopt_options_spec.proofs.Common.{parsed_item, positional_count, Leaves, LeadsNowhere, Says, leaves_anything, leaves_due, leaves_first, leaves_further, leaves_ended, state_at_end, Mistake}
-use Rattle.lexopt_options_spec.proofs.Common.{ReadsUpTo, Stops, missing_value, no_value, not_declared, one_too_many, unexpected_argument, unexpected_value, unknown_option, value_of_flag}
+use Rattle.lexopt_options_spec.proofs.Common.{◌≡◌, ◌≢◌, ℕ, Bool, true, false, List, [], ◌∷◌, ◌++◌, Option, Some, None, refl, sym, ap, subst, ◌∙◌, arith, inl, option_map, false≢true, append-nil}
+use Rattle.lexopt_options_spec.proofs.Common.{no_tail, UnreadLine, IsLine, IsPlain, IsNormalIn, pending, spelling, ValuesStep, Step, Item, Name, kind, ReadsFirst, first_positional, first_one}
+use Rattle.lexopt_options_spec.proofs.Common.{first_several, option_reply, start, IsDue, one_more_item, step_line, Declaration, index_of, is_sound, table, IsWithin, Parsed, most, parsed_item}
+use Rattle.lexopt_options_spec.proofs.Common.{positional_count, Leaves, LeadsNowhere, Says, leaves_anything, leaves_due, leaves_first, leaves_further, leaves_ended, state_at_end, Mistake, ReadsUpTo}
+use Rattle.lexopt_options_spec.proofs.Common.{Stops, missing_value, no_value, not_declared, one_too_many, unexpected_argument, unexpected_value, unknown_option, value_of_flag, Reply, Next, NextStep}
+use Rattle.lexopt_options_spec.proofs.Common.{no_word_left, reads_separator, next_word, nothing_to_take, none_tail}
 use Rattle.lexopt_spec.specs.Steps as steps
-use Rattle.lexopt_spec.specs.Steps.{Reply, Next, NextStep, no_word_left, reads_separator, next_word, nothing_to_take}
 use Rattle.lexopt_spec.specs.Runs as calls
 use Rattle.lexopt_line_spec.specs.Table as spec
 use Rattle.lexopt_line_spec.proofs.LastOption.{missing_names}
-use Rattle.lexopt_line_spec.proofs.OptionalLaw.{none_tail}
 use Rattle.lexopt_options_spec.specs.Legal as legal
 use Rattle.lexopt_options_spec.specs.States as states
 use Rattle.lexopt_options_spec.proofs.Cuts.{ends_here, enough}
 use Rattle.lexopt_options_spec.proofs.Fronts.{ComesTo, StopsEarly, no_front, nothing_read}
 use Rattle.lexopt_options_spec.proofs.Growing.{longer, Calm, Grows, EndsSo, ended_before, open_there, separator_last, ends_so, adds_word, calm_before, first_taken, lack_more, no_option, not_normal_more, only_end, option_before_separator, option_more, step_more, takes_next}
-use Rattle.lexopt_options_spec.proofs.Rests.{ends_reading, reading_spells}
+use Rattle.lexopt_options_spec.proofs.Rests.{ReadsAs, one_more, says}
 use Rattle.lexopt_options_spec.proofs.Lists.{joined}
 use Rattle.lexopt_options_spec.proofs.Occurs.{dashes_calm}
 use Rattle.lexopt_options_spec.proofs.OpenLines.{dashes}
-
--- the line s is read up to the line u, and this is read
-pub record ReadsAs (d : Declaration) (s : UnreadLine) (l : List Parsed) (u : UnreadLine) : Type 0 where
-  pub items : List Item
-  pub reads : ReadsItems (table d.options) s items u
-  pub parsed : map (parsed_item d.options) items ≡ map (λ s. Some s) l
 
 -- an option of several values was read last, and one more plain word at the end of the line is one
 -- more value of it
@@ -42,13 +35,6 @@ pub record Reached (d : Declaration) (s : UnreadLine) (l : List Parsed) (going :
   pub calm : (tail : List (List ℕ)) → Calm u tail → ReadsAs d (longer tail s) l (longer tail u)
   pub closed : going ≡ None → (tail : List (List ℕ)) → ReadsAs d (longer tail s) l (longer tail u)
   pub opened : (i : ℕ) → going ≡ Some i → Further d s l i u
-
-one_more : {d : Declaration} {s u w : UnreadLine} {l : List Parsed} {x : Item} {own : Parsed} → ReadsAs d s l u → ReadsFirst (table d.options) u x w → parsed_item d.options x ≡ Some own → ReadsAs d s (l ++ own ∷ []) w
-one_more {d} {s} {u} {w} {l} {x} {own} reads next is = record {
-  items = reads.items ++ x ∷ [];
-  reads = one_more_item (table d.options) s u w reads.items x reads.reads next;
-  parsed = joined (parsed_item d.options) reads.items l x own reads.parsed is;
-}
 
 -- ---- one more item
 
@@ -121,13 +107,6 @@ open_reached d s u w l o name index values at grows found line within = record {
             ap (λ n. spec.many n (vs ++ p ∷ [])) (sym a) ∙ ap (λ ws. spec.many name (ws ++ p ∷ [])) (sym b)
 
 -- ---- the end of the words
-
-says : {d : Declaration} {words : List (List ℕ)} {l : List Parsed} {u v : UnreadLine} → is_sound d.options ≡ true → ReadsAs d (start d.short_equals words) l u → NextStep u steps.end v → Says d words l
-says {d} {words} {l} {u} {v} sound reads ends = record {
-  items = reads.items;
-  spelled = reading_spells d sound words reads.items l (ends_reading (table d.options) (start d.short_equals words) u v reads.items reads.reads ends) reads.parsed;
-  parsed = reads.parsed;
-}
 
 up_to_as : {d : Declaration} {s u : UnreadLine} {l : List Parsed} → ReadsUpTo d s l u → ReadsAs d s l u
 up_to_as read = record { items = read.items; reads = read.read; parsed = read.parsed }

@@ -1,14 +1,13 @@
 -- Where the rest of a line begins.
-use Rattle.lexopt_options_spec.proofs.Common.{◌≡◌, ℕ, true, false, List, [], ◌∷◌, ◌++◌, map, Some, refl, sym, ap, subst, ◌∙◌, inl, append-nil, append_assoc, true≢false, append_cancel_right, dash}
-use Rattle.lexopt_options_spec.proofs.Common.{no_tail, IsPlain, UnreadLine, Item, Table, IsReading, ReadsItems, start, Spells, says_items, shown_spells, says_positional, reads_last, said_shows}
+use Rattle.lexopt_options_spec.proofs.Common.{◌≡◌, ℕ, true, false, List, [], ◌∷◌, ◌++◌, map, Some, refl, sym, ap, subst, ◌∙◌, inl, append_assoc, true≢false, append_cancel_right, dash}
+use Rattle.lexopt_options_spec.proofs.Common.{no_tail, IsPlain, UnreadLine, Item, ReadsFirst, ReadsItems, first_positional, start, one_more_item}
 use Rattle.lexopt_options_spec.proofs.Common.{Declaration, is_sound, table, Parsed, most, positional, positional_count, parsed_item, Says, ReadsUpTo}
 use Rattle.lexopt_spec.specs.Steps as steps
 use Rattle.lexopt_spec.specs.Steps.{Next, NextStep, no_word_left, word_left, no_word, reads_separator, reads_long, reads_cluster, reads_positional, joined_value, equals_value, next_in_cluster, after_separator, next_word}
-use Rattle.lexopt_line_spec.specs.Table as spec
 use Rattle.lexopt_options_spec.specs.Rest.{CanBegin, IsSplit, RestStart, separated, surplus}
 use Rattle.lexopt_options_spec.proofs.Cuts.{ends_here, enough, items_cut, step_cut, with_words}
+use Rattle.lexopt_options_spec.proofs.Fronts.{read_spells}
 use Rattle.lexopt_options_spec.proofs.Lists.{joined}
-use Rattle.lexopt_options_spec.proofs.Sound.{whole_names}
 
 -- the next word is a positional, or the one after the separator is; before the separator it is plain
 pub record WordRead (u : UnreadLine) (word : List ℕ) (w : UnreadLine) : Type 0 where
@@ -60,16 +59,6 @@ word_read u w word (next_word none not (reads_positional x ws some plain r_is af
   past = λ not ended. absurd (true≢false (sym ended ∙ ap (λ (v : UnreadLine). v.ended) after ∙ not));
 }
 
--- words whose reading reaches the end spell what was read
-pub reading_spells : (d : Declaration) → is_sound d.options ≡ true → (words : List (List ℕ)) (items : List Item) (l : List Parsed) → IsReading (table d.options) (start d.short_equals words) steps.end items
-    → map (parsed_item d.options) items ≡ map (λ s. Some s) l → Spells (table d.options) d.short_equals words items
-reading_spells d sound words items l reading parsed =
-    shown_spells (table d.options) d.short_equals words items (said_shows (table d.options) d.short_equals words items reading) (whole_names d.options sound items l parsed)
-
-pub ends_reading : (t : Table) (u v w : UnreadLine) (items : List Item) → ReadsItems t u items v → NextStep v steps.end w → IsReading t u steps.end items
-ends_reading t u v w items reads step =
-    subst (IsReading t u steps.end) (append-nil items) (says_items t u v items reads steps.end [] (reads_last t v w steps.end tt (inl step)))
-
 -- what tells that a rest begins with a positional, which is read at the line u and leaves the line w
 abbrev pub Starts : RestStart → Declaration → List Parsed → UnreadLine → UnreadLine → Type 0
 Starts surplus d l u w = most d.positionals ≡ Some (positional_count l)
@@ -84,20 +73,32 @@ pub record FrontRead (begins : RestStart) (d : Declaration) (words : List (List 
   pub after : UnreadLine
   pub ends : Next there steps.end after
 
--- before the positional, the words are read to their end
-ends_before : (d : Declaration) → is_sound d.options ≡ true → (words before left : List (List ℕ)) (l : List Parsed) (u : UnreadLine) (items : List Item) → ReadsItems (table d.options) (start d.short_equals before) items (with_words left u)
-    → map (parsed_item d.options) items ≡ map (λ s. Some s) l → (after : UnreadLine) → NextStep (with_words left u) steps.end after → Says d before l
-ends_before d sound words before left l u items reads parsed after ends = record {
-  items = items;
-  spelled = reading_spells d sound before items l (ends_reading (table d.options) (start d.short_equals before) (with_words left u) after items reads ends) parsed;
-  parsed = parsed;
+-- the line s is read up to the line u, and this is read
+pub record ReadsAs (d : Declaration) (s : UnreadLine) (l : List Parsed) (u : UnreadLine) : Type 0 where
+  pub items : List Item
+  pub reads : ReadsItems (table d.options) s items u
+  pub parsed : map (parsed_item d.options) items ≡ map (λ s. Some s) l
+
+pub one_more : {d : Declaration} {s u w : UnreadLine} {l : List Parsed} {x : Item} {own : Parsed} → ReadsAs d s l u → ReadsFirst (table d.options) u x w → parsed_item d.options x ≡ Some own → ReadsAs d s (l ++ own ∷ []) w
+one_more {d} {s} {u} {w} {l} {x} {own} reads next is = record {
+  items = reads.items ++ x ∷ [];
+  reads = one_more_item (table d.options) s u w reads.items x reads.reads next;
+  parsed = joined (parsed_item d.options) reads.items l x own reads.parsed is;
+}
+
+-- words that are read to their end
+pub says : {d : Declaration} {words : List (List ℕ)} {l : List Parsed} {u v : UnreadLine} → is_sound d.options ≡ true → ReadsAs d (start d.short_equals words) l u → NextStep u steps.end v → Says d words l
+says {d} {words} {l} {u} {v} sound reads ends = record {
+  items = reads.items;
+  spelled = read_spells d sound words reads.items l u v reads.reads (inl ends) reads.parsed;
+  parsed = reads.parsed;
 }
 
 -- the words before those that are left, if no value is pending
 pub before_here : (d : Declaration) → is_sound d.options ≡ true → (words : List (List ℕ)) (l : List Parsed) (u : UnreadLine) → ReadsUpTo d (start d.short_equals words) l u → u.tail ≡ no_tail → (before : List (List ℕ)) × (words ≡ before ++ u.words) × Says d before l
 before_here d sound words l u read none =
     let own = items_cut (table d.options) (start d.short_equals words) u read.items [] u.words refl read.read in
-    (own.before, own.words_are, ends_before d sound words own.before [] l u read.items own.holds read.parsed (with_words [] u) (ends_here (with_words [] u) u.ended refl none refl))
+    (own.before, own.words_are, says sound (record { items = read.items; reads = own.holds; parsed = read.parsed }) (ends_here (with_words [] u) u.ended refl none refl))
 
 pub front_read : (begins : RestStart) (d : Declaration) → is_sound d.options ≡ true → (words : List (List ℕ)) (l : List Parsed) (u w : UnreadLine) (word : List ℕ) → ReadsUpTo d (start d.short_equals words) l u → Starts begins d l u w
     → Next u (steps.positional word) w → FrontRead begins d words l word w.words
@@ -110,22 +111,17 @@ front_read begins d sound words l u w word read starts next =
     let whole = items_cut t (start d.short_equals words) u read.items reads.before w.words reads.words_are read.read in
     let one : whole.before ≡ front.before ++ word ∷ [] =
     append_cancel_right whole.before (front.before ++ word ∷ []) w.words (sym whole.words_are ∙ front.words_are ∙ sym (append_assoc front.before (word ∷ []) w.words)) in
-    let last = says_positional t (with_words reads.before u) (with_words [] w) word (inl reads.holds) steps.end []
-    (reads_last t (with_words [] w) (with_words [] w) steps.end tt (inl (ends_here (with_words [] w) w.ended refl at.none refl))) in
-    let reading = says_items t (start d.short_equals whole.before) (with_words reads.before u) read.items whole.holds steps.end (spec.positional word ∷ []) last in
-    let more = joined (parsed_item d.options) read.items l (spec.positional word) (positional word) read.parsed refl in
+    let before : ReadsAs d (start d.short_equals front.before) l (with_words at.before u) = record { items = read.items; reads = front.holds; parsed = read.parsed } in
+    let longer : ReadsAs d (start d.short_equals whole.before) l (with_words reads.before u) = record { items = read.items; reads = whole.holds; parsed = read.parsed } in
     record {
       front = front.before;
       split = record {
         words_are = front.words_are;
         l = l;
-        says = ends_before d sound words front.before at.before l u read.items front.holds read.parsed at.after at.ends;
+        says = says sound before at.ends;
         here = can_begin begins at starts front.before front.words_are;
-        begins = subst (λ ws. Says d ws (l ++ positional word ∷ [])) one (record {
-          items = read.items ++ spec.positional word ∷ [];
-          spelled = reading_spells d sound whole.before (read.items ++ spec.positional word ∷ []) (l ++ positional word ∷ []) reading more;
-          parsed = more;
-        });
+        begins = subst (λ ws. Says d ws (l ++ positional word ∷ [])) one
+            (says sound (one_more longer (first_positional word (with_words [] w) (inl reads.holds)) refl) (ends_here (with_words [] w) w.ended refl at.none refl));
       };
       there = with_words at.before u;
       read = record { items = read.items; read = front.holds; line = read.line; parsed = read.parsed; within = read.within };

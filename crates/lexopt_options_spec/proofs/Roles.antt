@@ -1,9 +1,9 @@
 -- What a word is in its place: the same, whichever word it is.
 use Rattle.lexopt_options_spec.proofs.Common.{◌≡◌, ◌≢◌, ◌<◌, ◌≤◌, ◌+◌, ℕ, suc, Bool, true, false, List, [], ◌∷◌, ◌++◌, map, length, drop, nat_eq, Option, Some, None, cond, refl, sym, ap, subst, ◌∙◌}
-use Rattle.lexopt_options_spec.proofs.Common.{inl, inr, arith, length-append, ◌&&◌, ◌==◌, starts_with, false≢true, Decides-eqb, same_Some, dash, equals, no_tail, rest_of, Tail, UnreadLine, pending}
-use Rattle.lexopt_options_spec.proofs.Common.{pending_in, BeginsWith, IsPlain, ValuesStep, Name, Item, Table, ReadsFirst, ReadsItems, first_positional, first_flag, first_one, first_optional}
-use Rattle.lexopt_options_spec.proofs.Common.{first_several, option_reply, FullStep, joined_one, attached_first, words_alone, nothing_given, full_step, option_given, shorter, Declaration, Declared}
-use Rattle.lexopt_options_spec.proofs.Common.{index_of, Parsed, parsed_item, EndsWith, Extends, HasRole, Role, role_of}
+use Rattle.lexopt_options_spec.proofs.Common.{inl, inr, arith, length-append, ◌&&◌, ◌==◌, starts_with, false≢true, Decides-eqb, same_Some, dash, equals, no_tail, rest_of, Tail, UnreadLine, pending_in}
+use Rattle.lexopt_options_spec.proofs.Common.{BeginsWith, IsPlain, ValuesStep, Name, Item, Table, ReadsFirst, ReadsItems, first_positional, first_flag, first_one, first_optional, first_several}
+use Rattle.lexopt_options_spec.proofs.Common.{option_reply, option_given, shorter, Declaration, Declared, index_of, Parsed, parsed_item, EndsWith, Extends, HasRole, Role, role_of, map_push}
+use Rattle.lexopt_options_spec.proofs.Common.{HandedItems, hands_nothing, hands_pending, hands_words, optional_hands, value_hands, values_hands}
 use Rattle.std.proofs.lemmas.Slice.Eq.{starts_is}
 use Rattle.lexopt_spec.specs.Pieces.{after_first_piece}
 use Rattle.lexopt_spec.specs.UnreadLine as unread
@@ -11,12 +11,13 @@ use Rattle.lexopt_spec.specs.Steps as steps
 use Rattle.lexopt_spec.specs.Steps.{Reply, NextStep, ValueStep, OptionalStep, ReadsShort, alone, with_value, no_word_left, word_left, no_word, reads_separator, reads_long, reads_cluster, reads_positional, joined_value, equals_value, next_in_cluster, after_separator, next_word, pending_value, takes_word, nothing_to_take, optional_pending, optional_none}
 use Rattle.lexopt_line_spec.specs.Table as spec
 use Rattle.lexopt_options_spec.specs.Legal as legal
-use Rattle.lexopt_options_spec.proofs.Cuts.{came_is, enough}
+use Rattle.lexopt_options_spec.proofs.Cuts.{enough}
 use Rattle.lexopt_options_spec.proofs.Fronts.{one_front}
 use Rattle.lexopt_options_spec.proofs.Growing.{longer}
-use Rattle.lexopt_options_spec.proofs.Lists.{first_same, same_last}
+use Rattle.lexopt_options_spec.proofs.Lists.{first_same, same_last, both_empty, not_empty}
 use Rattle.lexopt_options_spec.proofs.Occurs.{longer as no_longer}
 use Rattle.lexopt_options_spec.proofs.Sound.{known}
+use Rattle.lexopt_spec.specs.Account.{handed_items}
 
 -- ---- a value in the word of its option is shorter than the word
 
@@ -100,58 +101,33 @@ value_in (Some (value, by_equals)) = value
 
 -- a value that is pending
 pending_less : (on : Bool) (tail : Tail) (value : List ℕ) (by_equals : Bool) → pending_in on tail ≡ Some (value, by_equals) → length value ≤ length (bytes_of tail)
-pending_less on no_tail value by_equals is = absurd (let e : None ≡ Some (value, by_equals) = is in cc)
 pending_less on (unread.joined own) value by_equals is = let e = ap (λ o. length (value_in o)) is in omega (arith, e)
-pending_less on (unread.rest []) value by_equals is = absurd (let e : None ≡ Some (value, by_equals) = is in cc)
 pending_less on (unread.rest (b ∷ bs)) value by_equals is = at (on && b == equals) is
   where
     at : (marked : Bool) → cond {A = Option (List ℕ × Bool)} marked (Some (bs, true)) (Some (b ∷ bs, false)) ≡ Some (value, by_equals) → length value ≤ suc (length bs)
     at true is = let e = ap (λ o. length (value_in o)) is in omega (arith, e)
     at false is = let e = ap (λ o. length (value_in o)) is in omega (arith, e)
+pending_less on tail value by_equals is = cc
 
--- it is taken
-taken_low : (n : ℕ) (v w : UnreadLine) (value : List ℕ) (by_equals : Bool) → Low n v → pending v ≡ Some (value, by_equals) → w.words ≡ [] → w.tail ≡ no_tail → (length value < n) × Low n w
-taken_low n v w value by_equals low has none no_more =
+-- the last of the values that are taken there has fewer bytes
+values_low : (n : ℕ) (v w : UnreadLine) (l : List (List ℕ)) → Low n v → HandedItems v l w → ((front : List (List ℕ)) (p : List ℕ) → l ≡ front ++ p ∷ [] → length p < n) × Low n w
+values_low n v w l low (hands_nothing none after) = ((λ front p is. absurd (not_empty front [] p (sym is ∙ none))), subst (Low n) (sym after) low)
+values_low n v w l low (hands_words left none are after) =
+    let empty = both_empty l left (sym are ∙ low.none) in
+    ((λ front p is. absurd (not_empty front [] p (sym is ∙ empty.0))), subst (Low n) (sym after) (record { none = empty.1; less = low.less }))
+values_low n v w l low (hands_pending value by_equals front left has is are after) =
+    let empty = both_empty front left (sym are ∙ low.none) in
     let fewer = pending_less v.short_equals v.tail value by_equals has in
-    let less = low.less in
-    (omega (arith, fewer, less), record { none = none; less = subst (λ tail. length (bytes_of tail) < n) (sym no_more) (omega (arith, less)) })
+    let less = low.less in (
+      (λ others p last. subst (λ x. length x < n) (same_last [] others value p (sym (is ∙ ap (λ m. value ∷ m) empty.0) ∙ last)).1 (omega (arith, fewer, less))),
+      subst (Low n) (sym after) (record { none = empty.1; less = omega (arith, less) }),
+    )
 
 -- this is the word, or its last value is
 abbrev Whole : List ℕ → Item → Type 0
 Whole p (spec.option name value) = value ≡ Some p
 Whole p (spec.many name values) = (others : List (List ℕ)) × (values ≡ others ++ p ∷ [])
 Whole p (spec.positional word) = word ≡ p
-
-not_short : (p v : List ℕ) → length v < length p → v ≡ p → ⊥
-not_short p v less is = let e = ap length is in omega (arith, e, less)
-
-value_low : (p : List ℕ) (v w : UnreadLine) (word : List ℕ) → Low (length p) v → ValueStep v (steps.taken word) w → (Some word ≢ Some p) × Low (length p) w
-value_low p v w word low (pending_value value by_equals has r_is after) =
-    let less = taken_low (length p) v w value by_equals low has (ap (λ (x : UnreadLine). x.words) after ∙ low.none) (ap (λ (x : UnreadLine). x.tail) after) in
-    let same : value ≡ word = (let e : steps.taken word ≡ steps.taken value = r_is in cc) in
-    ((λ is. not_short p value less.0 (same ∙ same_Some word p is)), less.1)
-value_low p v w word low (takes_word x ws none some r_is after) = absurd (let e : [] ≡ x ∷ ws = sym low.none ∙ some in cc)
-value_low p v w word low (nothing_to_take none empty r_is after) = absurd (let e : steps.taken word ≡ steps.missing _ = r_is in cc)
-
-optional_low : (p : List ℕ) (v w : UnreadLine) (word : Option (List ℕ)) → Low (length p) v → OptionalStep v (steps.maybe word) w → (word ≢ Some p) × Low (length p) w
-optional_low p v w word low (optional_pending value by_equals has r_is after) =
-    let less = taken_low (length p) v w value by_equals low has (ap (λ (x : UnreadLine). x.words) after ∙ low.none) (ap (λ (x : UnreadLine). x.tail) after) in
-    let same : Some value ≡ word = (let e : steps.maybe word ≡ steps.maybe (Some value) = r_is in cc) in
-    ((λ is. not_short p value less.0 (same_Some value p (same ∙ is))), less.1)
-optional_low p v w word low (optional_none none r_is after) =
-    ((λ is. let e : steps.maybe (Some p) ≡ steps.maybe None = ap (λ o. steps.maybe o) (sym is) ∙ r_is in cc), subst (Low (length p)) (sym after) low)
-
-several_low : (p : List ℕ) (v w : UnreadLine) (name : Name) (came : List (List ℕ)) → Low (length p) v → FullStep v (steps.items came) w → (Whole p (spec.many name came) → ⊥) × Low (length p) w
-several_low p v w name came low (joined_one value has r_is after) =
-    let less = taken_low (length p) v w value true low has (ap (λ (x : UnreadLine). x.words) after ∙ low.none) (ap (λ (x : UnreadLine). x.tail) after) in
-    ((λ whole. not_short p value less.0 (same_last [] whole.0 value p (came_is came (value ∷ []) r_is ∙ whole.1)).1), less.1)
-several_low p v w name came low (attached_first value [] left has plain r_is after) =
-    let less = taken_low (length p) v w value false low has (ap (λ (x : UnreadLine). x.words) after ∙ sym plain.words_are ∙ low.none) (ap (λ (x : UnreadLine). x.tail) after) in
-    ((λ whole. not_short p value less.0 (same_last [] whole.0 value p (came_is came (value ∷ []) r_is ∙ whole.1)).1), less.1)
-several_low p v w name came low (attached_first value (x ∷ front) left has plain r_is after) = absurd (let e : [] ≡ x ∷ (front ++ left) = sym low.none ∙ plain.words_are in cc)
-several_low p v w name came low (words_alone [] left has plain some r_is after) = absurd (some refl)
-several_low p v w name came low (words_alone (x ∷ front) left has plain some r_is after) = absurd (let e : [] ≡ x ∷ (front ++ left) = sym low.none ∙ plain.words_are in cc)
-several_low p v w name came low (nothing_given has none r_is after) = absurd (let e : steps.items came ≡ steps.missing _ = r_is in cc)
 
 option_low : (p : List ℕ) (u v : UnreadLine) (name : Name) → Alone p u → steps.Next u (option_reply name) v → Low (length p) v
 option_low p u v (spec.short c) lone step = next_low p u v (steps.short c) lone (option_given u v (spec.short c) step)
@@ -160,10 +136,15 @@ option_low p u v (spec.long name) lone step = next_low p u v (steps.long name) l
 first_low : (t : Table) (p : List ℕ) (u w : UnreadLine) (x : Item) → Alone p u → ReadsFirst t u x w → (Whole p x → ⊥) × Low (length p) w
 first_low t p u w x lone (first_positional word v step) = absurd (next_low p u w (steps.positional word) lone (enough NextStep u (steps.positional word) w step (λ none. cc)))
 first_low t p u w x lone (first_flag name v k step) = ((λ is. let e : None ≡ Some p = is in cc), option_low p u w name lone step)
-first_low t p u w x lone (first_one name word v z k step takes) = value_low p v w word (option_low p u v name lone step) (enough ValueStep v (steps.taken word) w takes (λ none. cc))
-first_low t p u w x lone (first_optional name word v z k step takes) = optional_low p v w word (option_low p u v name lone step) (enough OptionalStep v (steps.maybe word) w takes (λ none. cc))
+first_low t p u w x lone (first_one name word v z k step takes) =
+    let low = values_low (length p) v w (word ∷ []) (option_low p u v name lone step) (value_hands v (steps.taken word) w (enough ValueStep v (steps.taken word) w takes (λ none. cc))) in
+    ((λ is. let less = low.0 [] p (ap (λ x. x ∷ []) (same_Some word p is)) in omega (arith, less)), low.1)
+first_low t p u w x lone (first_optional name word v z k step takes) =
+    let low = values_low (length p) v w (handed_items (steps.maybe word)) (option_low p u v name lone step) (optional_hands v (steps.maybe word) w (enough OptionalStep v (steps.maybe word) w takes (λ none. cc))) in
+    ((λ is. let less = low.0 [] p (ap (λ o. handed_items (steps.maybe o)) is) in omega (arith, less)), low.1)
 first_low t p u w x lone (first_several name n words v z k step few takes) =
-    several_low p v w name words (option_low p u v name lone step) (full_step n v w (steps.items words) few (enough (ValuesStep n) v (steps.items words) w takes (λ none. cc)))
+    let low = values_low (length p) v w words (option_low p u v name lone step) (values_hands n v (steps.items words) w (enough (ValuesStep n) v (steps.items words) w takes (λ none. cc))) in
+    ((λ whole. let less = low.0 whole.0 p whole.1 in omega (arith, less)), low.1)
 
 is_whole : (options : List Declared) (p : List ℕ) (x : Item) (s : Parsed) → parsed_item options x ≡ Some s → EndsWith p s → Whole p x
 is_whole options p (spec.option name v) s is whole = let index = known (λ i. legal.option i v) (index_of options name) s is in subst (EndsWith p) (sym index.2) whole
@@ -173,13 +154,12 @@ is_whole options p (spec.positional word) s is whole = subst (EndsWith p) (sym (
 -- what is read last does not end with the word
 pub not_whole : (options : List Declared) (t : Table) (p : List ℕ) (u w : UnreadLine) (items : List Item) (front : List Parsed) (s : Parsed) → Alone p u → ReadsItems t u items w
     → map (parsed_item options) items ≡ map (λ s. Some s) (front ++ s ∷ []) → EndsWith p s → ⊥
-not_whole options t p u w [] [] s lone reads are whole = let e : [] ≡ Some s ∷ [] = are in cc
-not_whole options t p u w [] (f ∷ front) s lone reads are whole = let e : [] ≡ Some f ∷ map (λ s. Some s) (front ++ s ∷ []) = are in cc
 not_whole options t p u w (x ∷ items) [] s lone (v, first, others) are whole =
     (first_low t p u v x lone first).0 (is_whole options p x s (first_same (parsed_item options x) (Some s) (map (parsed_item options) items) [] are).0 whole)
 not_whole options t p u w (x ∷ items) (f ∷ front) s lone (v, first, others) are whole =
     not_whole options t p v w items front s (low_alone p v (first_low t p u v x lone first).1) others
     (first_same (parsed_item options x) (Some f) (map (parsed_item options) items) (map (λ s. Some s) (front ++ s ∷ [])) are).1 whole
+not_whole options t p u w [] front s lone reads are whole = not_empty (map (λ s. Some s) front) [] (Some s) (sym (are ∙ map_push (λ s. Some s) front s))
 
 -- ---- a place has one role
 
@@ -197,8 +177,7 @@ dashed_not_plain (b ∷ typed) w begins longer plain = at (drop (length (b ∷ t
       where
         none : (l m : List ℕ) → length l + length m ≤ 0 → l ++ m ≡ l
         none [] [] short_so = refl
-        none [] (x ∷ m) short_so = absurd (omega (arith, short_so))
-        none (x ∷ l) m short_so = absurd (omega (arith, short_so))
+        none l m short_so = absurd (omega (arith, short_so))
     at rest is (inr (inr other)) = other (subst (BeginsWith dash) (sym is) begins)
 
 -- what was typed, and one more byte

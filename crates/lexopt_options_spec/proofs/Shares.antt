@@ -39,12 +39,9 @@ rest_fits p ps spare within =
   where
     go : (c : Count) (b : Bool) → IsWithin (needs c + least ps + spare) (if may_repeat c || b then None else Some (length (p ∷ ps))) → IsWithin (least ps) (if b then None else Some (length ps))
         → IsWithin (least ps + (spare - extra c spare)) (if b then None else Some (length ps))
-    go once true within small = tt
     go once false within small = omega arith
-    go at_most_once false within small = omega arith
-    go any_number false within small = omega arith
-    go at_least_once false within small = omega arith
     go c true within small = tt
+    go c false within small = omega arith
 
 -- ---- there is a list of shares
 
@@ -101,14 +98,13 @@ some_shares ps n enough within =
 
 none_total : (ps : List Positional) (shares : List ℕ) → NoneSpare ps shares → total shares ≡ least ps
 none_total [] [] none = refl
-none_total [] (n ∷ shares) none = absurd none
-none_total (p ∷ ps) [] none = absurd none
 none_total (p ∷ ps) (n ∷ shares) none =
     let first = sum_by-cons (λ n. n) n shares in
     let rest = none_total ps shares none.1 in
     let many = least_cons p ps in
     let one = none.0 in
     omega (arith, first, rest, many, one)
+none_total ps shares none = absurd none
 
 takes_enough : (c : Count) (n : ℕ) → CanTake c n → needs c ≤ n
 takes_enough once n can = omega arith
@@ -116,14 +112,13 @@ takes_enough c n can = omega arith
 
 least_total : (ps : List Positional) (shares : List ℕ) → AllZip (λ p n. CanTake p.count n) ps shares → least ps ≤ total shares
 least_total [] [] each = omega arith
-least_total [] (n ∷ shares) each = absurd each
-least_total (p ∷ ps) [] each = absurd each
 least_total (p ∷ ps) (n ∷ shares) each =
     let first = sum_by-cons (λ n. n) n shares in
     let rest = least_total ps shares each.1 in
     let many = least_cons p ps in
     let one = takes_enough p.count n each.0 in
     omega (arith, first, rest, many, one)
+least_total ps shares each = absurd each
 
 -- as many words belong to the first positional as in the list above
 first_is : (c : Count) (n others least_others spare : ℕ) → CanTake c n → (has_room c n ≡ true → others ≡ least_others) → n + others ≡ needs c + least_others + spare → least_others ≤ others
@@ -138,8 +133,6 @@ first_is c n others least_others spare can room all enough = let same = room ref
 
 are_greedy : (ps : List Positional) (spare : ℕ) (shares : List ℕ) → AllZip (λ p n. CanTake p.count n) ps shares → total shares ≡ least ps + spare → AreFirst ps shares → shares ≡ greedy ps spare
 are_greedy [] spare [] each all first = refl
-are_greedy [] spare (n ∷ shares) each all first = absurd each
-are_greedy (p ∷ ps) spare [] each all first = absurd each
 are_greedy (p ∷ ps) spare (n ∷ shares) each all first =
     let sums = sum_by-cons (λ n. n) n shares in
     let many = least_cons p ps in
@@ -149,6 +142,7 @@ are_greedy (p ∷ ps) spare (n ∷ shares) each all first =
     let small = extra_small p.count spare in
     let rest : total shares ≡ least ps + (spare - extra p.count spare) = omega (arith, whole, one, small, enough) in
     ap (λ m. m ∷ shares) one ∙ ap (λ l. (needs p.count + extra p.count spare) ∷ l) (are_greedy ps (spare - extra p.count spare) shares each.1 rest first.1)
+are_greedy ps spare shares each all first = absurd each
 
 pub shares_are_greedy : (ps : List Positional) (spare : ℕ) (shares : List ℕ) → AreShares ps (least ps + spare) shares → shares ≡ greedy ps spare
 shares_are_greedy ps spare shares are = are_greedy ps spare shares are.each are.all are.first

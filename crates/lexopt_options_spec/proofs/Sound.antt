@@ -1,19 +1,14 @@
 -- The names and the defaults of options that can be declared together.
-use Rattle.std.proofs.Common.{◌≡◌, ◌≢◌, ℕ, Bool, true, false, ◌==◌, ◌||◌, ◌&&◌, List, [], ◌∷◌, map, get_or, position, slice_get, take, Option, Some, None, cond, refl, sym, ap, subst, ◌∙◌}
-use Rattle.std.specs.List.{Contains, list_all, list_any}
-use Rattle.std.proofs.lemmas.Bool.{false≢true, and_parts, eq-eqb}
-use Rattle.std.proofs.lemmas.List.Folds.{list_any_at}
+use Rattle.lexopt_options_spec.proofs.Common.{◌≡◌, ◌≢◌, ℕ, Bool, true, false, ◌==◌, ◌||◌, ◌&&◌, List, [], ◌∷◌, map, get_or, position, slice_get, take, Option, Some, None, cond, refl, sym, ap, subst}
+use Rattle.lexopt_options_spec.proofs.Common.{◌∙◌, Contains, list_all, list_any, false≢true, and_parts, eq-eqb, eqb-false, list_any_at, replacement, lossy_characters, dash, equals, Name, short, long}
+use Rattle.lexopt_options_spec.proofs.Common.{Item, Kind, option_map, option_to_list}
 use Rattle.std.proofs.lemmas.List.Quantifiers.{position-Some}
 use Rattle.std.proofs.lemmas.Option.{get_or_from_slice_get, same_Some, slice_get-get_or, slice_get_within}
-use Rattle.lexopt_spec.specs.Pieces.{replacement, lossy_characters}
-use Rattle.lexopt_spec.specs.UnreadLine.{dash, equals}
 use Rattle.lexopt_line_spec.specs.Table as spec
-use Rattle.lexopt_line_spec.specs.Table.{Name, short, long, Item, Kind}
 use Rattle.lexopt_line_spec.specs.Spelling.{IsWholeName, HaveWholeNames}
 use Rattle.lexopt_options_spec.specs.Declaration.{Declared, Reason, Words, accepts, bad_default, is_default, has, all_names, has_name, is_empty, is_name, is_one_of, index_of, name_fault, names_fault, is_sound}
-use Rattle.std.specs.Option.{option_map, option_to_list}
 use Rattle.lexopt_options_spec.specs.Legal.{Parsed, option, several, parsed_item}
-use Rattle.lexopt_options_spec.proofs.FaultLemmas.{IsFaultless, faultless_at, neither}
+use Rattle.lexopt_options_spec.proofs.FaultLemmas.{IsFaultless, faultless_at, neither, passes}
 use Rattle.lexopt_options_spec.proofs.Lists.{first_same}
 use Rattle.lexopt_options_spec.proofs.Tables.{name_is}
 
@@ -25,9 +20,6 @@ IsGoodName (long name) = (name ≢ []) × (¬ Contains name equals) × (¬ Conta
 none_and : (b : Bool) (r : Reason) (rest : Option Reason) → cond b (Some r) rest ≡ None → (b ≡ false) × (rest ≡ None)
 none_and true r rest is = absurd (let e : Some r ≡ None = is in cc)
 none_and false r rest is = (refl, is)
-
-differ : (a b : ℕ) → (a == b) ≡ false → a ≢ b
-differ a b is same = false≢true (sym is ∙ eq-eqb a b same)
 
 not_among : (c : ℕ) (l : List ℕ) → has c l ≡ false → ¬ Contains l c
 not_among c l is among =
@@ -41,7 +33,7 @@ good_name : (name : Name) → name_fault name ≡ None → IsGoodName name
 good_name (short c) none =
     let first = none_and (c == dash) _ _ none in
     let second = none_and (c == replacement) _ _ first.1 in
-    (differ c dash first.0, differ c replacement second.0)
+    (eqb-false c dash first.0, eqb-false c replacement second.0)
 good_name (long name) none =
     let first = none_and (is_empty name) _ _ none in
     let second = none_and (has equals name) _ _ first.1 in
@@ -78,22 +70,15 @@ pub none_wrong : (options : List Declared) (i : ℕ) (o : Declared) → is_sound
 none_wrong options i o sound at =
     subst (λ p. IsFaultless (take i options) p) (get_or_from_slice_get options i o o at) (faultless_at options i o sound (slice_get_within options i o at))
 
-no_bad_default : (b : Bool) → cond b None (Some bad_default) ≡ None → b ≡ true
-no_bad_default true is = refl
-no_bad_default false is = absurd (let e : Some bad_default ≡ None = is in cc)
-
 default_parts : (k : Kind) (required : Bool) (words : Words) (value : List ℕ) → is_default k required words value ≡ true → (k ≡ spec.one) × (required ≡ false) × (accepts words value ≡ true)
 default_parts spec.one false words value is = (refl, refl, is)
-default_parts spec.one true words value is = absurd (false≢true is)
-default_parts spec.flag required words value is = absurd (false≢true is)
-default_parts spec.optional required words value is = absurd (false≢true is)
-default_parts spec.several required words value is = absurd (false≢true is)
+default_parts k required words value is = absurd (false≢true is)
 
 -- an option with a default has one value, is not required, and accepts the default
 pub default_fits : (options : List Declared) (i : ℕ) (o : Declared) (value : List ℕ) → is_sound options ≡ true → slice_get options i ≡ Some o → o.default ≡ Some value
     → (o.kind ≡ spec.one) × (o.required ≡ false) × (accepts o.words value ≡ true)
 default_fits options i o value sound at is =
-    let fine = no_bad_default _ (none_wrong options i o sound at).default in
+    let fine = passes _ bad_default (none_wrong options i o sound at).default in
     let alone : (is_default o.kind o.required o.words value && true) ≡ true = sym (ap (λ d. list_all (is_default o.kind o.required o.words) (option_to_list d)) is) ∙ fine in
     default_parts o.kind o.required o.words value (and_parts (is_default o.kind o.required o.words value) true alone).0
 

@@ -1,19 +1,16 @@
 -- What a word is, by the state that the words before it leave.
 use Rattle.lexopt_options_spec.proofs.Common.{if◌then◌else◌, ◌≡◌, ◌≢◌, ◌≤◌, ◌+◌, ◌==◌, ◌⊎◌, ◌↔◌, ℕ, Bool, true, false, List, [], ◌∷◌, ◌++◌, map, length, Option, Some, None, refl, sym, ap, subst, ◌∙◌}
-use Rattle.lexopt_options_spec.proofs.Common.{inl, inr, arith, append_assoc, length-append, true≢false, eqb-true, false≢true, eqb_tells, append-nil, dash, no_tail, BeginsWith, IsPlain, TailFits}
-use Rattle.lexopt_options_spec.proofs.Common.{UnreadLine, start, Item, Table, next_same, Declaration, table, Parsed, parsed_item, positional_count, positional_words, most, IsWithin, MeansFront}
+use Rattle.lexopt_options_spec.proofs.Common.{inl, inr, arith, append_assoc, length-append, true≢false, eqb-true, false≢true, eqb_tells, append-nil, dash, BeginsWith, IsPlain, TailFits}
+use Rattle.lexopt_options_spec.proofs.Common.{UnreadLine, start, Table, Declaration, table, Parsed, positional_count, positional_words, most, IsWithin, MeansFront}
 use Rattle.lexopt_options_spec.proofs.Common.{EndsWith, Extends, HasRole, IsOpen, argument, value, role_of, State, Says, SaysOpenly, Leaves, leaves_anything, leaves_due, leaves_first, leaves_further}
 use Rattle.lexopt_options_spec.proofs.Common.{leaves_ended, LeadsNowhere, opens, is_full, room, role_in}
 use Rattle.std.specs.Bool.{IsTrue}
-use Rattle.lexopt_spec.specs.Steps as steps
-use Rattle.lexopt_spec.specs.Steps.{NextStep}
 use Rattle.lexopt_options_spec.specs.Legal as legal
-use Rattle.lexopt_options_spec.proofs.Fronts.{Rest, rest_of, same_parsed, spelled_read}
-use Rattle.lexopt_options_spec.proofs.Growing.{EndsSo, ended_before, open_there as line_open, separator_last, ends_so, adds_word, items_calm, longer}
+use Rattle.lexopt_options_spec.proofs.Fronts.{Rest, rest_of, same_parsed}
+use Rattle.lexopt_options_spec.proofs.Growing.{items_calm, longer}
 use Rattle.lexopt_options_spec.proofs.Lists.{Ending, has_none, has_last, ending, count_append, same_last}
-use Rattle.lexopt_options_spec.proofs.Occurs.{dashes_calm, longer as no_longer}
+use Rattle.lexopt_options_spec.proofs.OneRest.{OpenRead, open_read}
 use Rattle.lexopt_options_spec.proofs.OpenLines.{dashes}
-use Rattle.lexopt_options_spec.proofs.ReadItems.{ReadsAll}
 use Rattle.lexopt_options_spec.proofs.Roles.{dashed_not_plain, not_whole, word_alone}
 use Rattle.lexopt_options_spec.proofs.Taken.{words_count}
 
@@ -124,63 +121,33 @@ value_there d words typed l i s within none whole role says w longer = (
 -- An option can come after these words: a word with a dash first that is longer than what was typed
 -- is the separator, or options, and what is read last is shorter than the word.
 no_role_where_open : (d : Declaration) (words : List (List ℕ)) (typed : List ℕ) (l : List Parsed) → BeginsWith dash typed → SaysOpenly d words l → HasRole d words typed None
-no_role_where_open d words typed l dashed says w longer_word before last takes = from (open_line (ends_so all.there read.0 all.ends))
+no_role_where_open d words typed l dashed says w longer_word before last takes = at (ending more.rest.later)
   where
     t : Table
     t = table d.options
 
-    items : List Item
-    items = says.says.items
+    own : OpenRead d words l
+    own = open_read d words l says.says says.with_separator
 
-    read : (after : UnreadLine) × ReadsAll t (start d.short_equals words) items after
-    read = spelled_read t d.short_equals words items says.says.spelled
+    there : UnreadLine
+    there = longer (w ∷ []) own.there
 
-    all : ReadsAll t (start d.short_equals words) items read.0
-    all = read.1
+    plain : ¬ IsPlain false w
+    plain = dashed_not_plain typed w dashed longer_word
 
     -- with one more word the same is read, and then the word
-    rest : (word : List ℕ) (m : List Parsed) → ¬ IsPlain false word → all.there.tail ≡ no_tail → Says d (words ++ word ∷ []) m → Rest d l m (longer (word ∷ []) all.there)
-    rest word m plain none more =
-        rest_of d (words ++ word ∷ []) l m items more.items (longer (word ∷ []) all.there) (subst (λ tail. TailFits tail all.there.last all.there.ended) (sym none) tt)
-        (items_calm t (word ∷ []) (start d.short_equals words) all.there items tt (λ empty no_more. plain) all.reads) says.says.parsed more.spelled more.parsed
+    more : Rest d l (before ++ last ∷ []) there
+    more = rest_of d (words ++ w ∷ []) l (before ++ last ∷ []) own.items takes.means.items there (subst (λ tail. TailFits tail own.there.last own.there.ended) (sym own.none) tt)
+        (items_calm t (w ∷ []) (start d.short_equals words) own.there own.items tt (λ empty no_more. plain) own.reads) own.parsed takes.means.spelled takes.means.parsed
 
-    -- the line does not end after the separator
-    shut : EndsSo all.there read.0 → read.0.ended ≡ true → all.there.tail ≡ no_tail → ⊥
-    shut so ended none = nothing_more more.rest.later more.items more.rest.all_are more.rest.are more.all
-      where
-        more : Rest d l l (longer (dashes ∷ []) all.there)
-        more = rest dashes l (dashes_calm []) none says.with_separator
-
-        nothing_more : (m : List Parsed) (xs : List Item) → l ≡ l ++ m → map (parsed_item d.options) xs ≡ map (λ s. Some s) m → ReadsAll t (longer (dashes ∷ []) all.there) xs more.after → ⊥
-        nothing_more [] [] same are ends =
-            let both = next_same (longer (dashes ∷ []) all.there) steps.end (steps.positional dashes) more.after read.0 (subst (λ u. NextStep u steps.end more.after) ends.reads ends.ends)
-            (adds_word all.there read.0 dashes so (λ not. absurd (false≢true (sym not ∙ ended)))) in
-            let e : steps.end ≡ steps.positional dashes = both.0 in cc
-        nothing_more [] (x ∷ xs) same are ends = let e : parsed_item d.options x ∷ map (parsed_item d.options) xs ≡ [] = are in cc
-        nothing_more (s ∷ m) xs same are ends = no_longer l s m (sym same)
-
-    open_line : EndsSo all.there read.0 → (all.there.tail ≡ no_tail) × (all.there.ended ≡ false) × (all.there.words ≡ [])
-    open_line (line_open none not empty after) = (none, not, empty)
-    open_line (ended_before none ended empty after) = absurd (shut (ended_before none ended empty after) (ap (λ (x : UnreadLine). x.ended) after ∙ ended) none)
-    open_line (separator_last none not last_is after) = absurd (shut (separator_last none not last_is after) (ap (λ (x : UnreadLine). x.ended) after) none)
-
-    from : (all.there.tail ≡ no_tail) × (all.there.ended ≡ false) × (all.there.words ≡ []) → MeansFront d words (before ++ last ∷ [])
-    from there = at (ending more.rest.later)
-      where
-        plain : ¬ IsPlain false w
-        plain = dashed_not_plain typed w dashed longer_word
-
-        more : Rest d l (before ++ last ∷ []) (longer (w ∷ []) all.there)
-        more = rest w (before ++ last ∷ []) plain there.0 (front_says d (words ++ w ∷ []) (before ++ last ∷ []) takes.means)
-
-        at : Ending more.rest.later → MeansFront d words (before ++ last ∷ [])
-        at (has_none none) =
-            says_front d words (before ++ last ∷ []) (subst (Says d words) (sym (more.rest.all_are ∙ ap (λ m. l ++ m) none ∙ append-nil l)) says.says) takes.means.within
-        at (has_last front s is) =
-            let same = (same_last before (l ++ front) last s (more.rest.all_are ∙ ap (λ m. l ++ m) is ∙ sym (append_assoc l front (s ∷ [])))).1 in
-            absurd
-            (not_whole d.options t w (longer (w ∷ []) all.there) more.all.there more.items front s
-            (word_alone w (longer (w ∷ []) all.there) (ap (λ ws. ws ++ w ∷ []) there.2) there.0 there.1 plain) more.all.reads (more.rest.are ∙ ap (map (λ s. Some s)) is) (subst (EndsWith w) same takes.whole))
+    at : Ending more.rest.later → MeansFront d words (before ++ last ∷ [])
+    at (has_none none) =
+        says_front d words (before ++ last ∷ []) (subst (Says d words) (sym (more.rest.all_are ∙ ap (λ m. l ++ m) none ∙ append-nil l)) says.says) takes.means.within
+    at (has_last front s is) =
+        let same = (same_last before (l ++ front) last s (more.rest.all_are ∙ ap (λ m. l ++ m) is ∙ sym (append_assoc l front (s ∷ [])))).1 in
+        absurd
+        (not_whole d.options t w there more.all.there more.items front s
+        (word_alone w there (ap (λ ws. ws ++ w ∷ []) own.empty) own.none own.not plain) more.all.reads (more.rest.are ∙ ap (map (λ s. Some s)) is) (subst (EndsWith w) same takes.whole))
 
 pub role_there : (d : Declaration) (words : List (List ℕ)) (typed : List ℕ) (l : List Parsed) (s : State) (dashed : Bool) → (IsTrue dashed ↔ BeginsWith dash typed) → Leaves d words l s
     → IsWithin (positional_count l) (most d.positionals) → HasRole d words typed (role_in d.positionals (positional_words l) dashed s)

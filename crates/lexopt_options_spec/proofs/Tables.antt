@@ -1,12 +1,10 @@
 -- In the table of a sound declaration, each option has its own kind.
-use Rattle.std.proofs.Common.{get_or, get_or-take, length-take-le, take, ◌<◌, position, nat_lt, length, if◌then◌else◌, ◌≡◌, ◌⊎◌, ℕ, ◌==◌, ◌||◌, ◌&&◌, suc, zero, Bool, true, false, cond, List, [], ◌∷◌, Option, Some, None, refl, sym, ap, subst, ◌∙◌, arith, inl, inr, ⊎_elim, true≢false}
-use Rattle.std.proofs.lemmas.Bool.{and_from, cases_order, false_from_ne_true, eq-eqb, eqb-true, lt-ltb, and_parts, or_cases, or_left, or_right}
+use Rattle.lexopt_options_spec.proofs.Common.{get_or, get_or-take, length-take-le, take, ◌<◌, position, nat_lt, length, if◌then◌else◌, ◌≡◌, ◌⊎◌, ℕ, ◌==◌, ◌||◌, ◌&&◌, suc, zero, Bool, true, false}
+use Rattle.lexopt_options_spec.proofs.Common.{cond, List, [], ◌∷◌, Option, Some, None, refl, sym, ap, subst, ◌∙◌, arith, inl, inr, ⊎_elim, true≢false, and_from, cases_order, false_from_ne_true}
+use Rattle.lexopt_options_spec.proofs.Common.{eq-eqb, eqb-true, lt-ltb, and_parts, or_cases, or_left, or_right, Any-from_list_any, list_any-append, list_any_at, list_any, pointwise, same_text}
 use Rattle.std.proofs.lemmas.List.{get_or_default}
-use Rattle.std.proofs.lemmas.List.Folds.{Any-from_list_any, list_any-append, list_any_at}
 use Rattle.std.proofs.lemmas.List.Sums.{position_or_len_is}
-use Rattle.std.specs.Prelude.{Any, Contains, is_none}
-use Rattle.std.specs.List.{list_any}
-use Rattle.std.specs.Cmp.Lexicographic.{pointwise, same_text}
+use Rattle.std.specs.Prelude.{Any, Contains}
 use Rattle.lexopt_line_spec.specs.Table.{Name, short, long, Kind, flag, one, optional, several, holds_in, kind}
 use Rattle.lexopt_options_spec.specs.Declaration.{Declared, all_names, has_name, index_of, is_name, is_one_of, if_kind, shorts_in, longs_in, shorts_of, longs_of, table, is_sound, shares_name}
 use Rattle.lexopt_options_spec.proofs.FaultLemmas.{faultless_at}
@@ -20,8 +18,7 @@ pointwise_refl (x ∷ xs) = ap (λ b. b && pointwise ◌==◌ xs xs) (eq-eqb x x
 pub name_is : (name n : Name) → is_name name n ≡ true → n ≡ name
 name_is (short c) (short d) is = ap (λ x. short x) (eqb-true d c is)
 name_is (long name) (long n) is = ap (λ x. long x) (same_text n name (sym is))
-name_is (short c) (long n) is = absurd (true≢false (sym is))
-name_is (long name) (short d) is = absurd (true≢false (sym is))
+name_is name n is = absurd (true≢false (sym is))
 
 pub name_refl : (name : Name) → is_name name name ≡ true
 name_refl (short c) = eq-eqb c c refl
@@ -67,16 +64,7 @@ any_kind : {X : Type 0} (p : X → Bool) (k l : Kind) (xs : List X) → list_any
 any_kind p one one xs = refl
 any_kind p optional optional xs = refl
 any_kind p several several xs = refl
-any_kind p flag l xs = refl
-any_kind p one flag xs = refl
-any_kind p one optional xs = refl
-any_kind p one several xs = refl
-any_kind p optional flag xs = refl
-any_kind p optional one xs = refl
-any_kind p optional several xs = refl
-any_kind p several flag xs = refl
-any_kind p several one xs = refl
-any_kind p several optional xs = refl
+any_kind p k l xs = refl
 
 any_short : (c : ℕ) (names : List Name) → list_any (λ d. d == c) (shorts_in names) ≡ is_one_of names (short c)
 any_short c [] = refl
@@ -157,9 +145,7 @@ contains_in (q ∷ os) o (suc k, below, at) = inr (contains_in os o (k, omega ar
 
 chosen : (k : Kind) → cond (is_kind one k) one (cond (is_kind optional k) optional (cond (is_kind several k) several flag)) ≡ k
 chosen flag = refl
-chosen one = refl
-chosen optional = refl
-chosen several = refl
+chosen k = refl
 
 -- in the table, the name of an option has the option's kind
 pub kind_of_name : (options : List Declared) (o : Declared) → is_sound options ≡ true → Contains options o → (name : Name) → has_name name o ≡ true → kind (table options) name ≡ o.kind
@@ -173,7 +159,7 @@ kind_of_name options o sound there name has =
 
 -- ---- the index of a name
 
-first_at : {X : Type 0} (p : X → Bool) (xs : List X) (i : ℕ) (d : X) → i < length xs → ((k : ℕ) → k < i → p (get_or xs k d) ≡ false) → p (get_or xs i d) ≡ true → position p xs ≡ Some i
+pub first_at : {X : Type 0} (p : X → Bool) (xs : List X) (i : ℕ) (d : X) → i < length xs → ((k : ℕ) → k < i → p (get_or xs k d) ≡ false) → p (get_or xs i d) ≡ true → position p xs ≡ Some i
 first_at p xs i d within before here =
     ap (λ n. if nat_lt n (length xs) then Some n else None) (position_or_len_is p xs i d (omega (arith, within)) before (λ inside. here))
     ∙ ap (λ b. if b then Some i else None) (lt-ltb i (length xs) within)

@@ -3,8 +3,7 @@ use Rattle.lexopt_options_spec.proofs.Common.{◌≡◌, ◌≤◌, ◌<◌, ◌
 use Rattle.lexopt_options_spec.proofs.Common.{replicate, slice_get, Option, Some, None, is_none, cond, unwrap_or, refl, sym, ap, subst, ◌∙◌, arith, inl, inr, ⊎_elim, length-append, and_parts}
 use Rattle.lexopt_options_spec.proofs.Common.{cases_lt, false≢true, length-map, length-replicate, take-append-le, take-replicate, sum_by, option_map, Count, Positional, once, at_most_once, any_number}
 use Rattle.lexopt_options_spec.proofs.Common.{at_least_once, are_listable, list_fault, CanBeTaken, IsWithin, Parsed, positional, most, positional_count, positional_words, AreShares, AreTaken}
-use Rattle.lexopt_options_spec.proofs.Common.{ArePlaces, IsNotTaken, extra, greedy, least, needs, owners, refused_word, takes_at}
-use Rattle.std.proofs.lemmas.List.Sums.{sum_by-cons}
+use Rattle.lexopt_options_spec.proofs.Common.{ArePlaces, IsNotTaken, extra, greedy, least, needs, owners, refused_word, takes_at, sum_by-cons}
 use Rattle.lexopt_options_spec.proofs.Listed.{value_fits, value_for}
 use Rattle.lexopt_options_spec.proofs.Shares.{least_within, one_places, places_are, some_places}
 use Rattle.lexopt_options_spec.proofs.FaultLemmas.{no_fault}

@@ -1,9 +1,6 @@
 -- The characters of a text.
-use Rattle.std.proofs.Common.{◌≡◌, ℕ, List, sym, ap, ◌∙◌}
+use Rattle.lexopt_options_spec.proofs.Common.{◌≡◌, ℕ, List, sym, ap, ◌∙◌, IsUtf8, chars, lossy_characters, encoded}
 use Rattle.std.proofs.lemmas.Str.{chars-encodes}
-use Rattle.std.specs.Str.{IsUtf8, chars}
-use Rattle.lexopt_spec.specs.Pieces.{lossy_characters}
-use Rattle.lexopt_line_spec.proofs.Names.{encoded}
 
 -- the lossy characters of UTF-8 are its characters
 pub text_characters : (bs : List ℕ) → IsUtf8 bs → lossy_characters bs ≡ chars bs

@@ -201,9 +201,8 @@ pub record Listed {X : Type 0} (Is : X → List ℕ → Type 0) (put : List ℕ 
 
 AllZip-more : {X : Type 0} (Is : X → List ℕ → Type 0) (xs : List X) (ts : List (List ℕ)) (x : X) (t : List ℕ) → AllZip Is xs ts → Is x t → AllZip Is (xs ++ x ∷ []) (ts ++ t ∷ [])
 AllZip-more Is [] [] x t all is = (is, tt)
-AllZip-more Is [] (y ∷ ys) x t all is = absurd all
-AllZip-more Is (z ∷ zs) [] x t all is = absurd all
 AllZip-more Is (z ∷ zs) (y ∷ ys) x t all is = (all.0, AllZip-more Is zs ys x t all.1 is)
+AllZip-more Is xs ts x t all is = absurd all
 
 pub one_listed : {X : Type 0} (Is : X → List ℕ → Type 0) (put : List ℕ → List ℕ) (before : List ℕ) (xs : List X) (text : List ℕ) (x : X) (t : List ℕ) → Listed Is put before xs text → Is x t
     → Listed Is put before (xs ++ x ∷ []) (text ++ put t)

@@ -12,7 +12,7 @@ use Rattle.lexopt_spec.specs.UnreadLine.{dash, BeginsWith, IsPlain}
 use Rattle.lexopt_line_spec.specs.Table.{Name, short, long}
 use Rattle.lexopt_options_spec.specs.Declaration.{Declaration, Declared, has_name, index_of}
 use Rattle.lexopt_options_spec.specs.Declaration.{names_of, Positional, Words, listed}
-use Rattle.lexopt_options_spec.specs.Legal.{IsWithin, Parsed, Means, MeansFront, most, option}
+use Rattle.lexopt_options_spec.specs.Legal.{IsWithin, Parsed, MeansWhole, MeansFront, most, option}
 use Rattle.lexopt_options_spec.specs.Legal.{positional, positional_words, several}
 use Rattle.lexopt_options_spec.specs.Places.{ArePlaces, refused_word}
 
@@ -28,7 +28,8 @@ IsOption i (several j values) = j ≡ i
 IsOption i (positional word) = ⊥
 
 -- after these words, s can come as the spelling of a declared option: the words mean something; and
--- with some words after s they legally spell that, then this option, and then anything
+-- with some words after s they legally spell that, then this option, and then anything, whether or
+-- not options of it exclude each other
 pub record CanOccur (d : Declaration) (words : List (List ℕ)) (s : List ℕ) : Type 0 where
   pub name : Name
   pub index : ℕ
@@ -40,7 +41,7 @@ pub record CanOccur (d : Declaration) (words : List (List ℕ)) (s : List ℕ) :
   pub rest : List (List ℕ)
   pub is : IsOption index parsed
   pub words_say : MeansFront d words before
-  pub line_means : Means d (words ++ s ∷ rest) (before ++ parsed ∷ later)
+  pub line_means : MeansWhole d (words ++ s ∷ rest) (before ++ parsed ∷ later)
 
 -- a spelling of an option
 pub record Spelled : Type 0 where

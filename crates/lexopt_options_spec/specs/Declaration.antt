@@ -56,18 +56,20 @@ pub record Declared : Type 0 where
   pub placeholder : List ℕ
   -- its help text
   pub help : List ℕ
-  -- a longer help text, which the full help shows instead; empty if it has none
-  pub details : List ℕ
+  -- a longer help text, which the full help shows instead, if there is one
+  pub details : Option (List ℕ)
   -- what it asks for, if anything
   pub asks : Option Asked
-  -- its heading in the help; empty if it has none
-  pub heading : List ℕ
+  -- its heading in the help, if it has one
+  pub heading : Option (List ℕ)
   -- the help leaves it out, no hint has its name, and it is offered only where it is typed whole
   pub hidden : Bool
   -- every legal line has it
   pub required : Bool
   -- the value that it has where a line does not have it, if there is one
   pub default : Option (List ℕ)
+  -- the exclusive group that it is in, if it is in one: a legal line has at most one of its options
+  pub exclusive : Option (List ℕ)
   -- what its values may be
   pub words : Words
   -- the help leaves out the list of its values
@@ -214,9 +216,11 @@ pub data Reason : Type 0 where
   bad_list : Reason
   -- it has a default, but is required, does not always have one value, or does not accept it
   bad_default : Reason
-  -- what its label shows beside its names is not a flag before it, or it has no long name, or has a
-  -- character where its label shows that of a flag
+  -- what its label shows beside its names is not a flag before it whose label shows nothing else, or
+  -- it has no long name, or has a character where its label shows that of a flag
   bad_label : Reason
+  -- it is in an exclusive group, but required
+  bad_exclusive : Reason
   -- an option before it has one of its names
   same_name : Reason
 
@@ -288,15 +292,29 @@ abbrev pub is_flag : Kind → Bool
 is_flag flag = true
 is_flag k = false
 
--- a flag among these has this name, if it is one
+-- the label of an option shows nothing beside its own names
+abbrev pub is_nothing : Beside → Bool
+is_nothing nothing = true
+is_nothing b = false
+
+-- a flag whose label shows nothing beside its own names
+abbrev pub is_plain_flag : Declared → Bool
+is_plain_flag o = is_flag o.kind && is_nothing o.beside
+
+-- such a flag among these has this name, if it is one
 abbrev pub have_flag : List Declared → Option Name → Bool
 have_flag options None = false
-have_flag options (Some name) = list_any (λ o. is_flag o.kind && has_name name o) options
+have_flag options (Some name) = list_any (λ o. is_plain_flag o && has_name name o) options
 
 -- why an option after these cannot have this beside its names, if that is the name of the flag
 abbrev pub label_fault : List Declared → Beside → Option Name → Option Reason
 label_fault before nothing name = None
 label_fault before b name = if have_flag before name then None else Some bad_label
+
+-- why an option cannot be in this exclusive group, by whether it is required
+abbrev pub exclusive_fault : Bool → Option (List ℕ) → Option Reason
+exclusive_fault true (Some own) = Some bad_exclusive
+exclusive_fault required exclusive = None
 
 -- the first of these reasons, if there is one
 abbrev pub or_else : Option Reason → Option Reason → Option Reason
@@ -322,7 +340,8 @@ fault_by fault_of before o = or_else (names_fault fault_of (all_names o))
     (or_else (placeholder_fault o.kind o.placeholder) (or_else (list_fault o.words)
     (or_else (default_fault o)
     (or_else (label_fault before o.beside (name_beside o.beside o.short_name o.long_name))
-    (if list_any (shares_name o) before then Some same_name else None)))))
+    (or_else (exclusive_fault o.required o.exclusive)
+    (if list_any (shares_name o) before then Some same_name else None))))))
 
 -- why this option cannot be declared after those before it
 abbrev pub fault : List Declared → Declared → Option Reason

@@ -13,12 +13,13 @@ demanded_option c name kind placeholder = record {
   kind = kind;
   placeholder = placeholder;
   help = [];
-  details = [];
+  details = None;
   asks = None;
-  heading = [];
+  heading = None;
   hidden = false;
   required = true;
   default = None;
+  exclusive = None;
   words = files;
   hides_list = false;
   aliases = [];
@@ -28,6 +29,22 @@ demanded_option c name kind placeholder = record {
 -- the flag `-v`
 abbrev pub voluntary_option : Declared
 voluntary_option = record (demanded_option (Some 0x76) None flag []) { required = false }
+
+-- `-v`, which the other options with this text exclude
+abbrev pub exclusive_option : List ℕ → Declared
+exclusive_option text = record voluntary_option { exclusive = Some text }
+
+-- the first and the third of these exclude each other
+abbrev pub exclusive_options : List Declared
+exclusive_options = exclusive_option (codes "format") ∷ exclusive_option (codes "order")
+    ∷ exclusive_option (codes "format") ∷ voluntary_option ∷ voluntary_option ∷ []
+
+-- `--json` and `--xml`, which exclude each other by the first text, around `-v` with the second
+abbrev pub long_options : List ℕ → List ℕ → List Declared
+long_options text other =
+    record (exclusive_option text) { short_name = None; long_name = Some (codes "json") }
+    ∷ exclusive_option other
+    ∷ record (exclusive_option text) { short_name = None; long_name = Some (codes "xml") } ∷ []
 
 -- the option with these further names
 abbrev pub also : List Name → Declared → Declared

@@ -3,11 +3,12 @@
 -- `ls --help`. Texts are their UTF-8. Columns are counted from 0.
 use Rattle.std.specs.Prelude.{◌≡◌, ◌≤◌, ◌<◌, ◌⊎◌, ℕ, Bool, false, true, ◌+◌, ◌-◌, ◌/◌, min, nat_le, ◌==◌, ◌&&◌, not}
 use Rattle.std.specs.Prelude.{if◌then◌else◌, List, [], ◌∷◌, ◌++◌, length, take, drop, filter, replicate}
-use Rattle.std.specs.Prelude.{codes, encode_utf8, map, Option, Some, None}
+use Rattle.std.specs.Prelude.{codes, encode_utf8, is_none, map, Option, Some, None}
 use Rattle.std.specs.Char.{IsScalar}
 use Rattle.std.specs.Str.{IsUtf8, chars}
 use Rattle.std.specs.List.{AllZip, concat, ends_with, flat_map, join_by, join_with_byte, slice_split}
 use Rattle.std.specs.List.{list_any, starts_with, sum_by}
+use Rattle.std.specs.Option.{is_some}
 use Rattle.bstr.specs.Unicode.{grapheme_spans}
 use Rattle.lexopt_spec.specs.Text.{escaped}
 use Rattle.lexopt_spec.specs.UnreadLine.{dash, equals}
@@ -18,6 +19,7 @@ use Rattle.lexopt_options_spec.specs.Declaration.{Declared, Declaration, Positio
 use Rattle.lexopt_options_spec.specs.Declaration.{at_least_once, at_most_once, any_number, is_empty}
 use Rattle.lexopt_options_spec.specs.Declaration.{Beside, Detail, Words, a_flag, brief, full}
 use Rattle.lexopt_options_spec.specs.Declaration.{has_name, listed, name_beside, negated, negation}
+use Rattle.lexopt_options_spec.specs.Legal.{are_same}
 
 -- ---- columns
 
@@ -268,9 +270,9 @@ is_shown_by options o = list_any (λ p. not p.hidden && shows p o) options
 abbrev pub entered : List Declared → List Declared
 entered options = filter (λ o. not o.hidden && not (is_shown_by options o)) options
 
--- the options that are not required, and those that are
+-- the options that are not required and that no other excludes, and those that are required
 abbrev pub voluntary : List Declared → List Declared
-voluntary options = filter (λ o. not o.required) options
+voluntary options = filter (λ o. not o.required && is_none o.exclusive) options
 
 abbrev pub demanded : List Declared → List Declared
 demanded options = filter (λ o. o.required) options
@@ -289,6 +291,27 @@ mark_of c (Some name) k value = codes "--" ++ name ++ after_long k value
 abbrev pub option_mark : Declared → List ℕ
 option_mark o = mark_of o.short_name o.long_name o.kind o.placeholder
 
+-- those of these options that are in this exclusive group
+abbrev pub sharing : Option (List ℕ) → List Declared → List Declared
+sharing text options = filter (λ o. are_same text o.exclusive) options
+
+-- an option and the others that it excludes, as in `[--json | --xml]`
+abbrev pub choice_mark : Declared → List Declared → List ℕ
+choice_mark o others = codes "[" ++ option_mark o
+    ++ flat_map (λ p. codes " | " ++ option_mark p) others ++ codes "]"
+
+-- this option with those after it that it excludes, if it is the first of its exclusive group after
+-- these
+abbrev pub choice : List Declared → Declared → List Declared → List (List ℕ)
+choice before o later =
+    if is_some o.exclusive && not (list_any (λ p. are_same o.exclusive p.exclusive) before)
+    then choice_mark o (sharing o.exclusive later) ∷ [] else []
+
+-- the same for each of these options, which come after the first ones
+abbrev pub choices : List Declared → List Declared → List (List ℕ)
+choices before [] = []
+choices before (o ∷ os) = choice before o os ++ choices (before ++ o ∷ []) os
+
 abbrev pub counted : Count → List ℕ → List ℕ
 counted once placeholder = placeholder
 counted at_most_once placeholder = codes "[" ++ placeholder ++ codes "]"
@@ -299,10 +322,11 @@ abbrev pub positional_mark : Positional → List ℕ
 positional_mark p = counted p.count p.placeholder
 
 -- the words of the usage line that is generated: the name of the program, `[OPTION]...` for options
--- that are not required, each required option, and the positionals
+-- that are not required, those that exclude each other, each required option, and the positionals
 abbrev pub usage_words : Declaration → List (List ℕ)
 usage_words d = d.program ∷ options_mark (voluntary (visible d.options))
-    ++ map option_mark (demanded (visible d.options)) ++ map positional_mark d.positionals
+    ++ choices [] (visible d.options) ++ map option_mark (demanded (visible d.options))
+    ++ map positional_mark d.positionals
 
 -- the words of the first usage line, where the program gives these texts for its usage lines
 abbrev pub first_usage : Declaration → List (List ℕ) → List (List ℕ)
@@ -374,10 +398,10 @@ told true help words = help
 told false help words = with_list help words
 
 -- the help text of an option: the longer one, unless there is none or the help is brief
-abbrev pub chosen : Detail → List ℕ → List ℕ → List ℕ
+abbrev pub chosen : Detail → List ℕ → Option (List ℕ) → List ℕ
 chosen brief help details = help
-chosen full help [] = help
-chosen full help (b ∷ bs) = b ∷ bs
+chosen full help None = help
+chosen full help (Some details) = details
 
 -- this text, and the default if there is one
 abbrev pub with_default : List ℕ → Option (List ℕ) → List ℕ
@@ -394,10 +418,10 @@ positional_text p = told p.hides_list p.help p.words
 
 -- ---- headings
 
--- a heading, on a line of its own after an empty line; nothing if it is empty
-abbrev pub heading_lines : List ℕ → List ℕ
-heading_lines [] = []
-heading_lines (b ∷ bs) = line_feed ∷ b ∷ bs ++ codes ":\n"
+-- a heading, on a line of its own after an empty line, if there is one
+abbrev pub heading_lines : Option (List ℕ) → List ℕ
+heading_lines None = []
+heading_lines (Some heading) = line_feed ∷ heading ++ codes ":\n"
 
 -- the text is the heading of this option, if it has one, and its entry
 pub record IsOption (detail : Detail) (width : ℕ) (o : Declared) (text : List ℕ) : Type 0 where

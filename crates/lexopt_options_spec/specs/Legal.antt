@@ -1,7 +1,8 @@
 -- What words mean under a declaration: relations between words and items, without calls or state.
 -- The source is `docs/behaviour.md`.
-use Rattle.std.specs.Prelude.{◌≡◌, ◌≤◌, ◌+◌, ◌==◌, ◌++◌, ℕ, suc, Bool, true, false, List, [], ◌∷◌}
-use Rattle.std.specs.Prelude.{length, map, Option, Some, None, if◌then◌else◌, is_none, not}
+use Rattle.std.specs.Prelude.{◌≡◌, ◌≤◌, ◌+◌, ◌==◌, ◌&&◌, ◌++◌, ℕ, suc, Bool, true, false, List, []}
+use Rattle.std.specs.Cmp.Lexicographic.{pointwise}
+use Rattle.std.specs.Prelude.{◌∷◌, length, map, Option, Some, None, if◌then◌else◌, is_none, not}
 use Rattle.std.specs.Prelude.{option_and_then, position, slice_get, unwrap_or}
 use Rattle.std.specs.List.{list_all, list_any}
 use Rattle.std.specs.Option.{option_map, option_to_list}
@@ -70,6 +71,27 @@ occurs i l = list_any (is_option i) l
 abbrev pub is_required : List Declared → ℕ → Bool
 is_required options i = unwrap_or (option_map (λ o. o.required) (slice_get options i)) false
 
+-- both are there, and the same
+abbrev pub are_same : Option (List ℕ) → Option (List ℕ) → Bool
+are_same (Some text) (Some other) = pointwise ◌==◌ text other
+are_same text other = false
+
+-- the exclusive group of the option at this index, if it is in one
+abbrev pub exclusive_at : List Declared → ℕ → Option (List ℕ)
+exclusive_at options i = option_and_then (λ o. o.exclusive) (slice_get options i)
+
+-- the options at these indices exclude each other: they are two, of one group
+abbrev pub exclude : List Declared → ℕ → ℕ → Bool
+exclude options i j = not (j == i) && are_same (exclusive_at options i) (exclusive_at options j)
+
+-- the options at these indices exclude each other, and both are there, as this tells
+abbrev pub clash : List Declared → (ℕ → Bool) → ℕ → ℕ → Bool
+clash options there i j = exclude options i j && (there i && there j)
+
+-- no two of the options that are there exclude each other
+abbrev pub AreApart : List Declared → (ℕ → Bool) → Type 0
+AreApart options there = (i j : ℕ) → clash options there i j ≡ false
+
 -- the option at this index with its default, if it has one and is not among these
 abbrev pub default_beside : List Parsed → ℕ → Declared → List Parsed
 default_beside l i o =
@@ -116,10 +138,16 @@ pub record MeansFront (d : Declaration) (words : List (List ℕ)) (l : List Pars
   pub within : IsWithin (positional_count l) (most d.positionals)
 
 -- and at least as many positionals as the declaration requires, and each required option, with
--- values and words that the options and the positionals accept
-pub record Means (d : Declaration) (words : List (List ℕ)) (l : List Parsed) : Type 0 where
+-- values and words that the options and the positionals accept; maybe options that exclude each
+-- other
+pub record MeansWhole (d : Declaration) (words : List (List ℕ)) (l : List Parsed) : Type 0 where
   pub front : MeansFront d words l
   pub enough : least d.positionals ≤ positional_count l
   pub complete : (i : ℕ) → is_required d.options i ≡ true → occurs i l ≡ true
   pub accepted : are_accepted d.options l ≡ true
   pub taken : AreTaken d.positionals (positional_words l)
+
+-- and no two options that exclude each other
+pub record Means (d : Declaration) (words : List (List ℕ)) (l : List Parsed) : Type 0 where
+  pub whole : MeansWhole d words l
+  pub apart : AreApart d.options (λ i. occurs i l)

@@ -1,5 +1,5 @@
 -- Where the reading of a line that is not legal stops, and why. The source is `docs/behaviour.md`.
-use Rattle.std.specs.Prelude.{◌≡◌, ◌≤◌, ◌<◌, ℕ, true, false, List, [], map, Some, None, slice_get}
+use Rattle.std.specs.Prelude.{◌≡◌, ◌≤◌, ◌<◌, ℕ, Bool, true, false, List, [], map, Some, None, slice_get}
 use Rattle.std.specs.Prelude.{◌∷◌, slice_index_or, unwrap_or}
 use Rattle.std.specs.Option.{option_map}
 use Rattle.lexopt_spec.specs.UnreadLine.{Tail, UnreadLine, IsLine}
@@ -10,7 +10,8 @@ use Rattle.lexopt_line_spec.specs.Table.{Item, Name, kind}
 use Rattle.lexopt_line_spec.specs.Readings.{IsDue, ReadsItems, option_reply, start}
 use Rattle.lexopt_options_spec.specs.Declaration.{Declaration, Declared, Positional, index_of}
 use Rattle.lexopt_options_spec.specs.Declaration.{table}
-use Rattle.lexopt_options_spec.specs.Legal.{IsWithin, Parsed, are_accepted, is_option, is_required}
+use Rattle.lexopt_options_spec.specs.Legal.{IsWithin, Parsed, are_accepted, clash, is_option}
+use Rattle.lexopt_options_spec.specs.Legal.{is_required}
 use Rattle.lexopt_options_spec.specs.Legal.{most, occurs, positional_count, positional_words}
 use Rattle.lexopt_options_spec.specs.Legal.{refused_value, parsed_item}
 use Rattle.lexopt_options_spec.specs.Places.{AreTaken, IsNotTaken, least, required}
@@ -33,6 +34,8 @@ pub data Mistake : Type 0 where
   missing_argument : ℕ → Mistake
   -- the option at this index is required and missing
   missing_option : ℕ → Mistake
+  -- the options at these indices exclude each other
+  exclusive_options : ℕ → ℕ → Mistake
 
 -- the line u was read up to the line v, and this was read: declared options, and at most as many
 -- positionals as the declaration allows
@@ -49,6 +52,14 @@ pub record IsFirstMissing (options : List Declared) (l : List Parsed) (index : �
   pub here : is_required options index ≡ true
   pub absent : occurs index l ≡ false
   pub first : (i : ℕ) → i < index → is_required options i ≡ true → occurs i l ≡ true
+
+-- the options at these indices exclude each other, and both are there, as this tells: the first such
+-- option, and the first that it excludes
+pub record IsFirstClash (options : List Declared) (there : ℕ → Bool) (index other : ℕ)
+    : Type 0 where
+  pub here : clash options there index other ≡ true
+  pub first : (i j : ℕ) → i < index → clash options there i j ≡ false
+  pub nearest : (j : ℕ) → j < other → clash options there index j ≡ false
 
 -- After this was read, the reading of the line stops with this mistake. Of an option that is not
 -- declared only the name is read; an option with a value that it does not accept is read with all
@@ -78,6 +89,12 @@ pub data Stops (d : Declaration) (l : List Parsed) (u : UnreadLine) : Mistake �
   not_complete : (index : ℕ) (v : UnreadLine) → Next u steps.end v
       → least d.positionals ≤ positional_count l → AreTaken d.positionals (positional_words l)
       → IsFirstMissing d.options l index → Stops d l u (missing_option index)
+  -- and no option is missing
+  not_apart : (index other : ℕ) (v : UnreadLine) → Next u steps.end v
+      → least d.positionals ≤ positional_count l → AreTaken d.positionals (positional_words l)
+      → ((i : ℕ) → is_required d.options i ≡ true → occurs i l ≡ true)
+      → IsFirstClash d.options (λ i. occurs i l) index other
+      → Stops d l u (exclusive_options index other)
 
 -- The reading of these words stops at this mistake. Before it they mean this, and each option
 -- accepts its values.
@@ -97,7 +114,7 @@ placeholder_at options index =
 abbrev pub required_placeholder : List Positional → ℕ → List ℕ
 required_placeholder ps n = slice_index_or (map (λ p. p.placeholder) (required ps)) n []
 
--- it is a mistake of an option, and not that an option is missing
+-- it is a mistake of an option, and not that an option is missing or excluded
 abbrev pub IsOfOption : Mistake → Type 0
 IsOfOption (unknown_option name left) = Unit {0}
 IsOfOption (unexpected_value option value) = Unit {0}

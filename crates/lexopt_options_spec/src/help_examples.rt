@@ -11,6 +11,7 @@ ghost use Rattle.lexopt_options_spec.specs.Help.{mark_of, option_mark, paragraph
 ghost use Rattle.lexopt_options_spec.specs.Help.{shown_epilogue, with_default, with_list};
 ghost use Rattle.lexopt_options_spec.specs.Help.{usage_words, words_of};
 ghost use Rattle.lexopt_options_spec.specs.Examples.{declaration_of, demanded_option};
+ghost use Rattle.lexopt_options_spec.specs.Examples.{exclusive_option, long_options};
 ghost use Rattle.lexopt_options_spec.specs.Examples.{positional_of, option_of, other_form};
 ghost use Rattle.lexopt_options_spec.specs.Examples.{voluntary_option};
 
@@ -63,6 +64,20 @@ pub fn usage_lines_have_these_words()
         ≡ codes "pack" ∷ codes "[OPTION]..." ∷ [] }
     ensures hidden_option { usage_words (declaration_of
         (record voluntary_option { hidden = true } ∷ []) []) ≡ codes "pack" ∷ [] }
+{}
+
+/// The usage line shows options that exclude each other where the first of them is declared, without
+/// those that are hidden.
+pub fn usage_lines_show_what_is_exclusive()
+    ensures words { usage_words (declaration_of (long_options (codes "format") (codes "order")) [])
+        ≡ codes "pack" ∷ codes "[--json | --xml]" ∷ codes "[-v]" ∷ [] }
+    ensures hidden { usage_words (declaration_of
+        (record (exclusive_option (codes "format")) { hidden = true }
+        ∷ long_options (codes "format") (codes "format")) [])
+        ≡ codes "pack" ∷ codes "[--json | -v | --xml]" ∷ [] }
+    ensures others { usage_words (declaration_of (exclusive_option (codes "format") ∷ voluntary_option
+        ∷ demanded_option None (Some (codes "yes")) flag [] ∷ []) [])
+        ≡ codes "pack" ∷ codes "[OPTION]..." ∷ codes "[-v]" ∷ codes "--yes" ∷ [] }
 {}
 
 /// The first text that a program gives for its usage replaces the words that are generated, even if
@@ -143,9 +158,10 @@ pub fn lists_are_shown()
 /// The full help shows the longer text of an option, if it has one. The default comes last.
 #[tactic(auto, unfolding(lexopt_line_spec::proofs::Computing::computing))]
 pub fn texts_are_chosen()
-    ensures longer { chosen full (codes "how") (codes "How to pack.") ≡ codes "How to pack." }
-    ensures in_brief { chosen brief (codes "how") (codes "How to pack.") ≡ codes "how" }
-    ensures no_longer { chosen full (codes "how") [] ≡ codes "how" }
+    ensures longer { chosen full (codes "how") (Some (codes "How to pack."))
+        ≡ codes "How to pack." }
+    ensures in_brief { chosen brief (codes "how") (Some (codes "How to pack.")) ≡ codes "how" }
+    ensures no_longer { chosen full (codes "how") None ≡ codes "how" }
     ensures no_default { with_default (codes "how") None ≡ codes "how" }
     ensures a_default { with_default (codes "how") (Some (codes "fast"))
         ≡ codes "how [default: fast]" }
@@ -153,7 +169,7 @@ pub fn texts_are_chosen()
         ≡ codes " [default: \\u{9b}]" }
     ensures all { option_text full (record (option_of None (listed (codes "fast" ∷ []))) {
       help = codes "how";
-      details = codes "How to pack.";
+      details = Some (codes "How to pack.");
       default = Some (codes "fast");
     }) ≡ codes "How to pack. One of fast. [default: fast]" }
     ensures no_epilogue { shown_epilogue brief (codes "See tar." ∷ []) ≡ [] }
@@ -177,8 +193,8 @@ pub fn flags_are_shown_beside()
 /// A heading comes after an empty line. There is one empty line before the first option, whether it
 /// has a heading or not.
 pub fn headings_are_lines()
-    ensures none { heading_lines [] ≡ [] }
-    ensures some { heading_lines (codes "Output") ≡ codes "\nOutput:\n" }
+    ensures none { heading_lines None ≡ [] }
+    ensures some { heading_lines (Some (codes "Output")) ≡ codes "\nOutput:\n" }
     ensures no_option { options_part [] ≡ [] }
     ensures no_heading { options_part (codes "  -v\n") ≡ codes "\n  -v\n" }
     ensures first_heading { options_part (codes "\nOutput:\n  -v\n") ≡ codes "\nOutput:\n  -v\n" }

@@ -16,6 +16,7 @@ ghost use Rattle.lexopt_options_spec.specs.Help.{label, line_columns, line_feed,
 /// the options are text, as each `char` and each `&str` is, it finds none if and only if the
 /// options can be declared together, and otherwise it finds the first option that cannot be
 /// declared after those before it, and the reason.
+#[tactic(auto, using(crate::proofs::Declarable::both_ways))]
 pub fn declarable_options_are_sound()
     ensures sound { (options : List Declared) → AreText options → first_fault options ≡ None
         → is_sound options ≡ true }
@@ -29,6 +30,7 @@ pub fn declarable_options_are_sound()
 /// option are text, then the words of each form that its label shows, with the placeholder as the
 /// value, legally spell that form's item and nothing else, under either setting of `short_equals`.
 /// The item is the option, with the placeholder as its value unless the form has no value.
+#[tactic(auto, using(crate::proofs::Labels::form_spelled))]
 pub fn labels_are_spelled()
     ensures { (options : List Declared) (o : Declared) (short_equals : Bool)
         (shown : List ℕ) (words : List (List ℕ)) (item : Item)
@@ -37,6 +39,7 @@ pub fn labels_are_spelled()
 {}
 
 /// The text by which a label shows a form is part of that label.
+#[tactic(auto, using(crate::proofs::LabelTexts::form_occurs))]
 pub fn labels_show_forms()
     ensures { (o : Declared) (shown : List ℕ) (words : List (List ℕ)) (item : Item)
         → LabelForm o shown words item

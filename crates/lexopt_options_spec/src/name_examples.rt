@@ -4,13 +4,16 @@ ghost use Rattle.std.specs.Prelude.{◌≡◌, ◌∷◌, [], None, Some, codes,
 ghost use Rattle.lexopt_line_spec.specs.Table.{long, one, optional, short};
 ghost use Rattle.lexopt_options_spec.specs.Completion.{offered, spellings};
 ghost use Rattle.lexopt_options_spec.specs.Declarable.{fault_beside};
-ghost use Rattle.lexopt_options_spec.specs.Declaration.{a_flag, bad_default, bad_label};
+ghost use Rattle.lexopt_options_spec.specs.Declaration.{a_flag, bad_default, bad_exclusive};
+ghost use Rattle.lexopt_options_spec.specs.Declaration.{bad_label, has};
 ghost use Rattle.lexopt_options_spec.specs.Declaration.{bad_placeholder, dash_name, empty_name};
 ghost use Rattle.lexopt_options_spec.specs.Declaration.{equals_in_name, files, index_of, negation};
 ghost use Rattle.lexopt_options_spec.specs.Declaration.{same_name, table};
 ghost use Rattle.lexopt_options_spec.specs.Examples.{also, color, other_form, voluntary_option};
+ghost use Rattle.lexopt_options_spec.specs.Examples.{exclusive_option, exclusive_options};
 ghost use Rattle.lexopt_options_spec.specs.Examples.{with_default_of};
 ghost use Rattle.lexopt_options_spec.specs.Help.{label};
+ghost use Rattle.lexopt_options_spec.specs.Legal.{clash, exclude};
 ghost use Rattle.lexopt_options_spec.specs.Nearest.{long_names};
 
 /// An option has its further names like its own.
@@ -74,8 +77,8 @@ pub fn defaults_are_checked()
         ≡ None }
 {}
 
-/// A label shows only a flag before the option: by a character, if the option has none, or its
-/// negation.
+/// A label shows only a flag before the option, whose own label shows no other: by a character, if
+/// the option has none, or its negation.
 pub fn labels_are_checked()
     ensures flag { fault_beside (voluntary_option ∷ []) (other_form (a_flag 0x76) false) ≡ None }
     ensures missing { fault_beside [] (other_form (a_flag 0x76) false) ≡ Some bad_label }
@@ -92,4 +95,27 @@ pub fn labels_are_checked()
     ensures no_negation { fault_beside
         (record voluntary_option { long_name = Some (codes "nocolor") } ∷ [])
         (other_form negation false) ≡ Some bad_label }
+    ensures beside_another { fault_beside
+        (record voluntary_option { long_name = Some (codes "no-color"); beside = negation } ∷ [])
+        (other_form negation false) ≡ Some bad_label }
+{}
+
+/// An option that other options exclude is not required.
+pub fn exclusive_options_are_checked()
+    ensures voluntary { fault_beside [] (exclusive_option (codes "format")) ≡ None }
+    ensures required { fault_beside []
+        (record (exclusive_option (codes "format")) { required = true }) ≡ Some bad_exclusive }
+{}
+
+/// Two options with the same text exclude each other, and no option excludes itself.
+pub fn options_with_one_text_exclude_each_other()
+    ensures second { exclude exclusive_options 0 2 ≡ true }
+    ensures first { exclude exclusive_options 2 0 ≡ true }
+    ensures itself { exclude exclusive_options 0 0 ≡ false }
+    ensures another_text { exclude exclusive_options 0 1 ≡ false }
+    ensures no_text { exclude exclusive_options 3 3 ≡ false }
+    ensures without_texts { exclude exclusive_options 3 4 ≡ false }
+    ensures not_declared { exclude exclusive_options 5 6 ≡ false }
+    ensures both_there { clash exclusive_options (λ i. has i (2 ∷ 0 ∷ [])) 0 2 ≡ true }
+    ensures one_there { clash exclusive_options (λ i. has i (2 ∷ 1 ∷ [])) 0 2 ≡ false }
 {}

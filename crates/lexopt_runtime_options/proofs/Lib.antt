@@ -2,3 +2,4 @@ pub mod FirstFaults
 pub mod Repeated
 pub mod BadLists
 pub mod OptionNames
+pub mod SharedOptions

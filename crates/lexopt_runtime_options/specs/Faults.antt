@@ -20,7 +20,7 @@ use Rattle.lexopt_runtime_options.specs.declared.faults.Reason.TheVariants.{Repl
 use Rattle.lexopt_runtime_options.specs.declared.faults.Reason.TheVariants.{BlankOrControlInName}
 use Rattle.lexopt_runtime_options.specs.declared.faults.Reason.TheVariants.{BadPlaceholder}
 use Rattle.lexopt_runtime_options.specs.declared.faults.Reason.TheVariants.{BadList, BadDefault, BadLabel}
-use Rattle.lexopt_runtime_options.specs.declared.faults.Reason.TheVariants.{SameName}
+use Rattle.lexopt_runtime_options.specs.declared.faults.Reason.TheVariants.{BadExclusive, SameName}
 
 -- why an option cannot be declared
 abbrev pub reason_view : Reason → spec.Reason
@@ -33,6 +33,7 @@ reason_view BadPlaceholder = spec.bad_placeholder
 reason_view BadList = spec.bad_list
 reason_view BadDefault = spec.bad_default
 reason_view BadLabel = spec.bad_label
+reason_view BadExclusive = spec.bad_exclusive
 reason_view SameName = spec.same_name
 
 -- the option with these names is the first that cannot be declared after those before it, for this

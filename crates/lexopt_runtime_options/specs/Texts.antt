@@ -11,7 +11,7 @@ use Rattle.lexopt_runtime_options.specs.declared.faults.Reason.TheVariants.{Repl
 use Rattle.lexopt_runtime_options.specs.declared.faults.Reason.TheVariants.{BlankOrControlInName}
 use Rattle.lexopt_runtime_options.specs.declared.faults.Reason.TheVariants.{BadPlaceholder}
 use Rattle.lexopt_runtime_options.specs.declared.faults.Reason.TheVariants.{BadList, BadDefault, BadLabel}
-use Rattle.lexopt_runtime_options.specs.declared.faults.Reason.TheVariants.{SameName}
+use Rattle.lexopt_runtime_options.specs.declared.faults.Reason.TheVariants.{BadExclusive, SameName}
 
 -- why an option cannot be declared
 abbrev pub reason_text : Reason → List ℕ
@@ -26,8 +26,10 @@ reason_text BadList =
     ++ codes "or has a blank or a control character in it"
 reason_text BadDefault = codes "it has a default, but is required, does not always have one value, or "
     ++ codes "does not accept it"
-reason_text BadLabel = codes "its label shows a flag or a negation that is not declared before it, or does not "
-    ++ codes "fit its names"
+reason_text BadLabel =
+    codes "its label shows a flag or a negation that is not declared before it, or whose own "
+    ++ codes "label shows another, or that does not fit its names"
+reason_text BadExclusive = codes "it excludes other options, but is required"
 reason_text SameName = codes "an option before it has one of its names"
 
 -- which option or positional cannot be declared, and why

@@ -48,10 +48,12 @@ pub enum Reason {
     BadList,
     /// It has a default, but is required, does not always have one value, or does not accept it.
     BadDefault,
-    /// Its label shows a flag or a negation that is not declared before it, or does not fit its names:
-    /// a flag beside an option that has a character or no long name, or the negation of an option
-    /// without a long name.
+    /// Its label shows a flag or a negation that is not declared before it, or whose own label shows
+    /// another, or that does not fit its names: a flag beside an option that has a character or no
+    /// long name, or the negation of an option without a long name.
     BadLabel,
+    /// It is in an exclusive group, but required.
+    BadExclusive,
     /// An option before it has one of its names.
     SameName,
 }
@@ -105,9 +107,10 @@ impl fmt::Display for Reason {
                  accept it",
             ),
             Reason::BadLabel => f.write_str(
-                "its label shows a flag or a negation that is not declared before it, or does not \
-                 fit its names",
+                "its label shows a flag or a negation that is not declared before it, or whose own \
+                 label shows another, or that does not fit its names",
             ),
+            Reason::BadExclusive => f.write_str("it excludes other options, but is required"),
             Reason::SameName => f.write_str("an option before it has one of its names"),
         }
     }
@@ -382,32 +385,32 @@ fn any_shares_name<F, V, M, S>(
     others.iter().any(|other| shares_name(option, other))
 }
 
-// Whether an option has no values.
-fn is_flag(arity: Arity<'_>) -> bool
-    ensures { result ≡ spec.is_flag (arity_kind arity.entry) }
+// Whether an option is a flag whose label shows nothing beside its own names.
+fn is_plain_flag<F, V, M, S>(option: &Declared<'_, F, V, M, S>) -> bool
+    ensures { result ≡ spec.is_plain_flag (option_view option.now) }
 {
-    matches!(arity, Arity::Zero)
+    matches!(option.kind.arity(), Arity::Zero) && matches!(option.beside, Beside::Nothing)
 }
 
-// Whether an option is a flag with this character.
+// Whether an option is such a flag with this character.
 fn is_short_flag<F, V, M, S>(option: &Declared<'_, F, V, M, S>, character: char) -> bool
-    ensures { result ≡ (spec.is_flag (option_view option.now).kind
+    ensures { result ≡ (spec.is_plain_flag (option_view option.now)
         && spec.has_name (table.short character) (option_view option.now)) }
 {
-    is_flag(option.kind.arity()) && has_short(option, character)
+    is_plain_flag(option) && has_short(option, character)
 }
 
-// Whether an option is a flag that is the negation of this long name.
+// Whether an option is such a flag, and is the negation of this long name.
 fn is_negation<F, V, M, S>(option: &Declared<'_, F, V, M, S>, name: &str) -> bool
-    ensures { result ≡ (spec.is_flag (option_view option.now).kind
+    ensures { result ≡ (spec.is_plain_flag (option_view option.now)
         && spec.has_name (table.long (spec.negated name.now)) (option_view option.now)) }
 {
-    is_flag(option.kind.arity()) && has_negation(option, name)
+    is_plain_flag(option) && has_negation(option, name)
 }
 
-// Whether one of these is a flag with this character.
+// Whether one of these is such a flag with this character.
 fn any_short_flag<F, V, M, S>(options: &[Declared<'_, F, V, M, S>], character: char) -> bool
-    ensures { result ≡ list_any (λ o. spec.is_flag (option_view o).kind
+    ensures { result ≡ list_any (λ o. spec.is_plain_flag (option_view o)
         && spec.has_name (table.short character) (option_view o)) options.now }
 {
     options
@@ -415,9 +418,9 @@ fn any_short_flag<F, V, M, S>(options: &[Declared<'_, F, V, M, S>], character: c
         .any(|option| is_short_flag(option, character))
 }
 
-// Whether one of these is a flag that is the negation of this long name.
+// Whether one of these is such a flag, and is the negation of this long name.
 fn any_negation<F, V, M, S>(options: &[Declared<'_, F, V, M, S>], name: &str) -> bool
-    ensures { result ≡ list_any (λ o. spec.is_flag (option_view o).kind
+    ensures { result ≡ list_any (λ o. spec.is_plain_flag (option_view o)
         && spec.has_name (table.long (spec.negated name.now)) (option_view o)) options.now }
 {
     options.iter().any(|option| is_negation(option, name))
@@ -467,6 +470,17 @@ fn label_fault<F, V, M, S>(
     }
 }
 
+// What is wrong with an option that is in this exclusive group.
+fn exclusive_fault(is_required: bool, exclusive: Option<&str>) -> Option<Reason>
+    ensures { option_map reason_view result
+        ≡ spec.exclusive_fault is_required (option_map (λ own. own.now) exclusive.entry) }
+{
+    if is_required && exclusive.is_some() {
+        return Some(Reason::BadExclusive);
+    }
+    None
+}
+
 // What is wrong with an option after these options.
 fn fault<F, V, M, S>(
     before: &[Declared<'_, F, V, M, S>],
@@ -488,6 +502,9 @@ fn fault<F, V, M, S>(
         return Some(reason);
     }
     if let Some(reason) = label_fault(before, option.beside, option.names) {
+        return Some(reason);
+    }
+    if let Some(reason) = exclusive_fault(option.required, option.exclusive) {
         return Some(reason);
     }
     if any_shares_name(option, before) {

@@ -96,23 +96,27 @@ static STRICT: Plan = declare! {
     ],
 };
 
-// Two options with a default, one of which has a list of values. The full help has longer texts. Labels
-// show two flags and a negation beside the names of other options.
+// Two options with a default, one of which has a list of values, and three and two that exclude each
+// other. The full help has longer texts. Labels show two flags and a negation beside the names of
+// other options.
 static FILLED: Plan = declare! {
     program: "filled",
     options: [
-        flag(Key::Extra, Names::Long("no-user"), "nobody does it"),
+        flag(Key::Extra, Names::Long("no-user"), "nobody does it").exclusive("user"),
         value(Key::User, Names::Both('u', "user"), "NAME", "who does it")
             .default("\x1B u")
-            .with_negation(),
-        flag(Key::Verbose, Names::Short('v'), "tell more"),
+            .with_negation()
+            .exclusive("user"),
+        flag(Key::Verbose, Names::Short('v'), "tell more").exclusive("more"),
         maybe(Key::Verbose, Names::Long("verbose"), "HOW", "how much")
             .details("Tell more or less.")
-            .with_flag('v'),
+            .with_flag('v')
+            .exclusive("user"),
         value(Key::Extra, Names::Short('x'), "MORE", "")
             .details("What else there is.")
             .one_of(&["a", "1"])
-            .default("1"),
+            .default("1")
+            .exclusive("more"),
         brief_help(Names::Short('h')),
         help(Names::Long("help")).with_flag('h'),
     ],

@@ -132,6 +132,7 @@ same_reason reason.BadPlaceholder = refl
 same_reason reason.BadList = refl
 same_reason reason.BadDefault = refl
 same_reason reason.BadLabel = refl
+same_reason reason.BadExclusive = refl
 same_reason reason.SameName = refl
 
 -- the placeholder is printed as it is

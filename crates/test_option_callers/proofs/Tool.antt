@@ -109,6 +109,8 @@ stopped_by S (mistake.InvalidArgument placeholder word values) why (index, same,
 stopped_by S (mistake.MissingArgument placeholder) why is stopped = (is.0, subst S is.1 stopped, is.2)
 stopped_by S (mistake.MissingOption own) why (index, same, (d, here, short, long)) stopped =
     (index, subst S same stopped, d, here, names_are d own short long)
+stopped_by S (mistake.Exclusive own others) why (index, other, same, (d, here, short, long), (e, there, character, name)) stopped =
+    (index, other, subst S same stopped, (d, here, names_are d own short long), (e, there, names_are e others character name))
 stopped_by S (mistake.MissingCommand names) why is stopped = absurd is
 stopped_by S (mistake.UnknownCommand word rest hints) why is stopped = absurd is
 stopped_by S (mistake.InvalidVariable own) why is stopped = absurd is

@@ -20,3 +20,10 @@ grouped = record {
   epilogue = [];
   short_equals = true;
 }
+
+-- the option of the declaration, and then that of the group that it shares
+abbrev pub shared : Declaration
+shared = record grouped {
+  options = plain (Some 118) (Some (codes "verbose")) flag [] (codes "tell more")
+      ∷ plain None (Some (codes "quiet")) flag [] (codes "tell nothing") ∷ [];
+}

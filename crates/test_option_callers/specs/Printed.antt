@@ -64,8 +64,9 @@ reason_line reason.BadList = list_reason
 reason_line reason.BadDefault = codes "it has a default, but is required, does not always have one value, or "
     ++ codes "does not accept it"
 reason_line reason.BadLabel =
-    codes "its label shows a flag or a negation that is not declared before it, or does not "
-    ++ codes "fit its names"
+    codes "its label shows a flag or a negation that is not declared before it, or whose own "
+    ++ codes "label shows another, or that does not fit its names"
+reason_line reason.BadExclusive = codes "it excludes other options, but is required"
 reason_line reason.SameName = codes "an option before it has one of its names"
 
 abbrev pub declaration_line : DeclarationError → List ℕ
@@ -113,6 +114,8 @@ mistake_line (mistake.InvalidArgument placeholder word values) = codes "invalid 
     ++ (codes ": one of " ++ list_text (map (λ v. printed_text v.now) values.now)))))
 mistake_line (mistake.MissingOption names) =
     codes "missing option '" ++ (names_line names ++ codes "'")
+mistake_line (mistake.Exclusive names others) = codes "options '" ++ (names_line names
+    ++ (codes "' and '" ++ (names_line others ++ codes "' cannot be used together")))
 mistake_line (mistake.MissingCommand names) =
     codes "missing command: one of " ++ list_text (map (λ name. printed_text name.now) names.items)
 mistake_line (mistake.UnknownCommand word rest hints) = codes "unknown command " ++ (visible word
@@ -175,12 +178,13 @@ listed_option placeholder values = record {
   kind = one;
   placeholder = placeholder;
   help = [];
-  details = [];
+  details = None;
   asks = None;
-  heading = [];
+  heading = None;
   hidden = false;
   required = false;
   default = None;
+  exclusive = None;
   words = spec.listed values;
   hides_list = false;
   aliases = [];
@@ -194,12 +198,13 @@ two_options character name placeholder values = record {
   kind = flag;
   placeholder = [];
   help = [];
-  details = [];
+  details = None;
   asks = None;
-  heading = [];
+  heading = None;
   hidden = false;
   required = false;
   default = None;
+  exclusive = None;
   words = spec.files;
   hides_list = false;
   aliases = [];
@@ -216,6 +221,7 @@ reason_of reason.BadPlaceholder = spec.bad_placeholder
 reason_of reason.BadList = spec.bad_list
 reason_of reason.BadDefault = spec.bad_default
 reason_of reason.BadLabel = spec.bad_label
+reason_of reason.BadExclusive = spec.bad_exclusive
 reason_of reason.SameName = spec.same_name
 
 -- the character of the first option, or of the second
@@ -252,12 +258,13 @@ one_option character help = record {
   kind = flag;
   placeholder = [];
   help = help;
-  details = [];
+  details = None;
   asks = None;
-  heading = [];
+  heading = None;
   hidden = false;
   required = false;
   default = None;
+  exclusive = None;
   words = spec.files;
   hides_list = false;
   aliases = [];

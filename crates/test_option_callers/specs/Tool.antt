@@ -63,12 +63,13 @@ plain c name kind placeholder help = record {
   kind = kind;
   placeholder = placeholder;
   help = help;
-  details = [];
+  details = None;
   asks = None;
-  heading = [];
+  heading = None;
   hidden = false;
   required = false;
   default = None;
+  exclusive = None;
   words = files;
   hides_list = false;
   aliases = [];
@@ -78,7 +79,7 @@ plain c name kind placeholder help = record {
 abbrev pub tool_options : List Declared
 tool_options = plain (Some 118) (Some (codes "verbose")) flag [] (codes "tell more")
     ∷ record (plain (Some 102) None flag [] (codes "by force")) {
-      heading = codes "Danger";
+      heading = Some (codes "Danger");
       hidden = true;
     }
     ∷ plain (Some 111) (Some (codes "output")) one (codes "FILE") (codes "write there")
@@ -95,7 +96,7 @@ tool_options = plain (Some 118) (Some (codes "verbose")) flag [] (codes "tell mo
       asks = Some (for_version (codes "tool 1"));
     }
     ∷ record (plain (Some 117) (Some (codes "user")) one (codes "NAME") (codes "for whom")) {
-      heading = codes "Owners";
+      heading = Some (codes "Owners");
       required = true;
     }
     ∷ []
@@ -221,6 +222,10 @@ StoppedBy S (mistake.MissingArgument placeholder) = (count : ℕ)
 StoppedBy S (mistake.MissingOption own) = (index : ℕ)
     × S (stops.missing_option index)
     × (o : Declared) × (slice_get tool_options index ≡ Some o) × HasNames o own
+StoppedBy S (mistake.Exclusive own others) = (index : ℕ) × (other : ℕ)
+    × S (stops.exclusive_options index other)
+    × ((o : Declared) × (slice_get tool_options index ≡ Some o) × HasNames o own)
+    × ((o : Declared) × (slice_get tool_options other ≡ Some o) × HasNames o others)
 StoppedBy S (mistake.MissingCommand names) = ⊥
 StoppedBy S (mistake.UnknownCommand word rest hints) = ⊥
 StoppedBy S (mistake.InvalidVariable own) = ⊥

@@ -7,10 +7,8 @@ ghost use Rattle.lexopt_declaration.specs.Models.{option_view};
 ghost use Rattle.test_option_callers.specs.Printed.{IsErrorOf, IsFaultOf, IsUsageOf, declaration_line};
 ghost use Rattle.test_option_callers.specs.Printed.{IsErrorWith, IsUsageWith, names_line, refused_line};
 ghost use Rattle.test_option_callers.specs.Printed.{listed_option, report_line, two_options};
-ghost use Rattle.test_option_callers.specs.Texts.{error_line};
 
 use crate::declared::{Flag, Value, Word};
-use lexopt_commands::CommandError;
 use lexopt_options::{
     Count, Declaration, Declared, Mistake, Names, Positional, Refused, Report, UsageError, Words,
     declare_option,
@@ -23,13 +21,6 @@ pub fn names_text(alloc: Global, names: &Names<'_>) -> Result<String, AllocError
     ensures { IfOk result (λ text. string_bytes text ≡ names_line names.now) }
 {
     format!(in alloc; "{names}")
-}
-
-/// Prints why a command cannot be declared.
-pub fn command_error_text(alloc: Global, error: &CommandError<'_>) -> Result<String, AllocError>
-    ensures { IfOk result (λ text. string_bytes text ≡ error_line error.now) }
-{
-    format!(in alloc; "{error}")
 }
 
 /// Prints why an option cannot be declared.
@@ -55,6 +46,16 @@ pub fn missing_option_text(alloc: Global) -> Result<String, AllocError>
     ensures { IfOk result (λ text. string_bytes text ≡ codes "missing option '--user'") }
 {
     let mistake = Mistake::MissingOption(Names::Both('u', "user"));
+    format!(in alloc; "{mistake}")
+}
+
+/// Prints that two options exclude each other.
+#[tactic(auto, unfolding(lexopt_line_spec::proofs::Computing::computing))]
+pub fn exclusive_options_text(alloc: Global) -> Result<String, AllocError>
+    ensures { IfOk result (λ text. string_bytes text
+        ≡ codes "options '--json' and '-x' cannot be used together") }
+{
+    let mistake = Mistake::Exclusive(Names::Long("json"), Names::Short('x'));
     format!(in alloc; "{mistake}")
 }
 

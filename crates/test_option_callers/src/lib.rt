@@ -1,9 +1,7 @@
-//! Callers of declared options and commands that exist for the prover. Each has clauses of its own,
-//! which are proved from the clauses of the public calls alone.
+//! Callers of declared options that exist for the prover. Each has clauses of its own, which are
+//! proved from the clauses of the public calls alone.
 #![tactic(auto)]
 
-pub mod command_lines;
-pub mod commands;
 pub mod declared;
 pub mod declared_keys;
 pub mod declared_texts;

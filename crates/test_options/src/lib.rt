@@ -1,5 +1,6 @@
 //! Tests of declared options: each public call once, what the library reads from an environment,
-//! what `declare!` makes, defaults, and the texts of failed conversions.
+//! what `declare!` makes, defaults, options that exclude each other, and the texts of failed
+//! conversions.
 #![tactic(auto)]
 
 #[cfg(test)]
@@ -13,6 +14,10 @@ mod defaults;
 #[cfg(test)]
 mod environment;
 #[cfg(test)]
+mod exclusive;
+#[cfg(test)]
 mod large;
+#[cfg(test)]
+mod shared;
 #[cfg(test)]
 mod values;

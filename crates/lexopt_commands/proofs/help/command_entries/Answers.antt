@@ -1,9 +1,5 @@
-use Rattle.std.proofs.Common.{◌≡◌, sym, subst, take, ◌∙◌, arith}
+use Rattle.lexopt_commands.proofs.Common.{◌≡◌, sym, take, ◌∙◌, arith, common_steps}
 use Rattle.std.proofs.lemmas.List.Concat.{concat_is}
-use Rattle.std.proofs.lemmas.Grind.{common_steps}
-use Rattle.std.specs.List.{AllZip}
-use Rattle.lexopt_options_spec.specs.Help.{IsEntry}
-use Rattle.lexopt_commands.specs.declared.command.Command.{Command}
 use Rattle.lexopt_commands.proofs.Entries.{entry_more}
 use Rattle.lexopt_commands.proofs.help.command_entries.Goals as goal
 
@@ -16,4 +12,4 @@ pub returns : goal.returns
 returns g c =
     let l = c.loop-command.invariant in
     let all : take c.loop-command.command-index c.args.commands.now ≡ c.args.commands.now = grind (arith, common_steps) in
-    (l.texts, subst (λ cs. AllZip (λ (x : Command _). IsEntry c.args.width x.name.now x.help.now) cs l.texts) all l.each, l.text_is ∙ sym (concat_is l.texts))
+    (l.texts, rw all at l.each, l.text_is ∙ sym (concat_is l.texts))

@@ -1,5 +1,4 @@
-use Rattle.std.proofs.Common.{◌≡◌, map, take}
-use Rattle.lexopt_declaration.specs.Models.{positional_view}
+use Rattle.lexopt_commands.proofs.Common.{◌≡◌, map, take, positional_view}
 use Rattle.lexopt_commands.proofs.wrapper.declared_positionals.Given as goal
 
 abbrev pub invariant-loop-positional : goal.invariant-loop-positional

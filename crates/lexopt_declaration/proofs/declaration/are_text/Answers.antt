@@ -1,7 +1,4 @@
-use Rattle.std.proofs.Common.{map, subst, arith}
-use Rattle.std.proofs.lemmas.List.{take_all}
-use Rattle.lexopt_options_spec.specs.Completion.{AreText}
-use Rattle.lexopt_declaration.specs.Models.{option_view}
+use Rattle.lexopt_declaration.proofs.Common.{arith, take_all}
 use Rattle.lexopt_declaration.proofs.Spelled.{text_more}
 use Rattle.lexopt_declaration.proofs.declaration.are_text.Goals as goal
 
@@ -11,4 +8,4 @@ loop-option-preserved g c =
 
 pub returns : goal.returns
 returns g c =
-    subst (λ os. AreText (map option_view os)) (take_all c.loop-option.option-index c.args.options.now (omega (arith, c.loop-option-test.false))) c.loop-option.invariant
+    rw (take_all c.loop-option.option-index c.args.options.now (omega (arith, c.loop-option-test.false))) at c.loop-option.invariant

@@ -1,6 +1,4 @@
-use Rattle.std.proofs.Common.{map, take}
-use Rattle.lexopt_options_spec.specs.Completion.{AreText}
-use Rattle.lexopt_declaration.specs.Models.{option_view}
+use Rattle.lexopt_declaration.proofs.Common.{map, take, AreText, option_view}
 use Rattle.lexopt_declaration.proofs.declaration.are_text.Given as goal
 
 abbrev pub invariant-loop-option : goal.invariant-loop-option

@@ -1,6 +1,5 @@
-use Rattle.std.proofs.Common.{take}
+use Rattle.lexopt_declaration.proofs.Common.{take, AreAllText, names_list}
 use Rattle.std.specs.List.{flat_map}
-use Rattle.lexopt_declaration.specs.Models.{AreAllText, names_list}
 use Rattle.lexopt_declaration.proofs.declaration.option_is_text.Given as goal
 
 abbrev pub invariant-loop-names : goal.invariant-loop-names

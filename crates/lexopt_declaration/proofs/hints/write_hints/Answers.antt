@@ -1,5 +1,4 @@
-use Rattle.lexopt_declaration.proofs.Common.{arith, common_steps}
-use Rattle.std.proofs.Output.{has_written_of_eq}
+use Rattle.lexopt_declaration.proofs.Common.{arith, common_steps, has_written_of_eq}
 use Rattle.lexopt_declaration.proofs.Hinted.{several_text}
 use Rattle.lexopt_declaration.proofs.hints.write_hints.Goals as goal
 

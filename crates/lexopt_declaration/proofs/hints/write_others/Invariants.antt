@@ -1,5 +1,4 @@
-use Rattle.lexopt_declaration.proofs.Common.{◌++◌, List, ℕ, Bor, codes, map, take, flat_map, HasWritten, IsPlainFormatter}
-use Rattle.lexopt_declaration.specs.Texts.{name_in_quotes}
+use Rattle.lexopt_declaration.proofs.Common.{◌++◌, List, ℕ, Bor, codes, map, take, flat_map, HasWritten, IsPlainFormatter, name_in_quotes}
 use Rattle.lexopt_declaration.proofs.hints.write_others.Given as goal
 
 abbrev pub invariant-loop-other : goal.invariant-loop-other

@@ -1,5 +1,4 @@
-use Rattle.lexopt_declaration.proofs.Common.{◌++◌, List, ℕ, Bor, codes, map, take, flat_map, HasWritten, IsPlainFormatter}
-use Rattle.lexopt_options_spec.specs.Help.{escaped_text}
+use Rattle.lexopt_declaration.proofs.Common.{◌++◌, List, ℕ, Bor, codes, map, take, flat_map, HasWritten, IsPlainFormatter, escaped_text}
 use Rattle.lexopt_declaration.proofs.listed.write_others.Given as goal
 
 abbrev pub invariant-loop-other : goal.invariant-loop-other

@@ -1,4 +1,4 @@
-use Rattle.std.proofs.Common.{◌++◌, ◌∙◌, codes}
+use Rattle.std.proofs.Common.{◌∙◌}
 use Rattle.lexopt_line_spec.specs.Table as table
 use Rattle.lexopt_options_spec.specs.Declaration.{negated}
 use Rattle.lexopt_declaration.proofs.OptionNames.{has_further}

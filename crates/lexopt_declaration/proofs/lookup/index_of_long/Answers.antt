@@ -1,8 +1,6 @@
 use Rattle.std.proofs.Common.{◌∙◌}
-use Rattle.lexopt_line_spec.specs.Table as table
-use Rattle.lexopt_options_spec.specs.Declaration.{has_name}
 use Rattle.lexopt_declaration.proofs.Positions.{position_map}
 use Rattle.lexopt_declaration.proofs.lookup.index_of_long.Goals as goal
 
 pub returns : goal.returns
-returns g c = c.place_of_long.ensures ∙ position_map (has_name (table.long c.args.name.now)) c.args.options.now
+returns g c = c.place_of_long.ensures ∙ position_map _ c.args.options.now

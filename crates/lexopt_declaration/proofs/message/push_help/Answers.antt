@@ -1,8 +1,5 @@
-use Rattle.std.proofs.Common.{[], ◌∷◌, ◌++◌, append-nil, append_assoc, flat_map, map-id, string_bytes, sym, ap, ◌∙◌}
+use Rattle.lexopt_declaration.proofs.Common.{[], ◌∷◌, ◌++◌, append-nil, append_assoc, flat_map, map-id, string_bytes, sym, ap, ◌∙◌, YieldsList-from_chars, YieldsList-end, on_one_line}
 use Rattle.std.proofs.lemmas.Grind.{flat_map-append}
-use Rattle.std.proofs.lemmas.Iterator.{YieldsList-from_chars}
-use Rattle.std.proofs.lemmas.Iterator.Consumers.{YieldsList-end}
-use Rattle.lexopt_declaration.specs.Texts.{on_one_line}
 use Rattle.lexopt_declaration.proofs.message.push_help.Goals as goal
 
 pub loop-character-preserved : goal.loop-character-preserved

@@ -1,5 +1,4 @@
-use Rattle.std.proofs.Common.{◌≡◌, ◌++◌, flat_map, string_bytes}
-use Rattle.lexopt_declaration.specs.Texts.{on_one_line}
+use Rattle.lexopt_declaration.proofs.Common.{◌≡◌, ◌++◌, flat_map, string_bytes, on_one_line}
 use Rattle.lexopt_declaration.proofs.message.push_help.Given as goal
 
 abbrev pub invariant-loop-character : goal.invariant-loop-character

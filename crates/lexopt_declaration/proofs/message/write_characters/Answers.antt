@@ -1,9 +1,4 @@
-use Rattle.std.proofs.Common.{[], flat_map, map-id, refl, sym, ap, ◌∙◌}
-use Rattle.std.proofs.Output.{has_written_append, has_written_of_eq}
-use Rattle.std.proofs.lemmas.Iterator.{YieldsList-from_chars}
-use Rattle.std.proofs.lemmas.Iterator.Consumers.{YieldsList-end}
-use Rattle.std.proofs.lemmas.List.{flat_map_more}
-use Rattle.lexopt_spec.specs.Text.{escaped}
+use Rattle.lexopt_declaration.proofs.Common.{[], flat_map, map-id, refl, sym, ap, ◌∙◌, has_written_append, has_written_of_eq, YieldsList-from_chars, YieldsList-end, flat_map_more, escaped}
 use Rattle.lexopt_declaration.proofs.message.write_characters.Goals as goal
 
 pub loop-character-preserved : goal.loop-character-preserved

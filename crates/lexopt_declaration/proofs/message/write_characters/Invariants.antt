@@ -1,6 +1,4 @@
-use Rattle.std.proofs.Common.{flat_map}
-use Rattle.std.specs.Fmt.{HasWritten, IsPlainFormatter}
-use Rattle.lexopt_spec.specs.Text.{escaped}
+use Rattle.lexopt_declaration.proofs.Common.{flat_map, HasWritten, IsPlainFormatter, escaped}
 use Rattle.lexopt_declaration.proofs.message.write_characters.Given as goal
 
 abbrev pub invariant-loop-character : goal.invariant-loop-character

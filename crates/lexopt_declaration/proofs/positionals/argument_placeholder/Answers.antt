@@ -1,7 +1,4 @@
-use Rattle.std.proofs.Common.{ℕ, map, sym, ap, ◌∙◌, drop, ◌+◌}
-use Rattle.lexopt_options_spec.specs.Stops.{required_placeholder}
-use Rattle.lexopt_options_spec.specs.Declaration.{has_to_occur}
-use Rattle.lexopt_declaration.specs.Models.{count_view, positional_view}
+use Rattle.lexopt_declaration.proofs.Common.{ℕ, map, sym, ap, ◌∙◌, drop, ◌+◌, required_placeholder, has_to_occur, count_view, positional_view}
 use Rattle.lexopt_declaration.proofs.Counting.{none_left, passed, passed_over, this_one}
 use Rattle.lexopt_declaration.proofs.positionals.argument_placeholder.Goals.{then-is_required+else-left-eq0, else-is_required}
 use Rattle.lexopt_declaration.proofs.positionals.argument_placeholder.Goals as goal

@@ -1,6 +1,4 @@
-use Rattle.std.proofs.Common.{◌≡◌, map, drop}
-use Rattle.lexopt_options_spec.specs.Stops.{required_placeholder}
-use Rattle.lexopt_declaration.specs.Models.{positional_view}
+use Rattle.lexopt_declaration.proofs.Common.{◌≡◌, map, drop, required_placeholder, positional_view}
 use Rattle.lexopt_declaration.proofs.positionals.argument_placeholder.Given as goal
 
 abbrev pub invariant-loop-positional : goal.invariant-loop-positional

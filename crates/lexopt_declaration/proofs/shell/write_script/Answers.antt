@@ -1,5 +1,4 @@
-use Rattle.lexopt_declaration.proofs.Common.{[], flat_map, map-id, refl, sym, ap, ◌∙◌, YieldsList-from_chars, YieldsList-end, flat_map_more, script_character}
-use Rattle.std.proofs.Output.{has_written_append, has_written_of_eq}
+use Rattle.lexopt_declaration.proofs.Common.{[], flat_map, map-id, refl, sym, ap, ◌∙◌, YieldsList-from_chars, YieldsList-end, flat_map_more, script_character, has_written_append, has_written_of_eq}
 use Rattle.lexopt_declaration.proofs.shell.write_script.Goals as goal
 
 pub loop-character-preserved : goal.loop-character-preserved

@@ -46,4 +46,4 @@ returns-clause-one_too_few c l means =
     nothing_parsed _ _ (positional (codes "a") ∷ []) (missing_argument 1) stops l means
 
 pub returns-clause-nothing_else : goal.returns-clause-nothing_else
-returns-clause-nothing_else c l means = one_front _ _ l (positional (codes "a") ∷ positional (codes "b") ∷ []) means.front two_positionals.front
+returns-clause-nothing_else c l means = one_front _ _ l (positional (codes "a") ∷ positional (codes "b") ∷ []) means.whole.front two_positionals.whole.front

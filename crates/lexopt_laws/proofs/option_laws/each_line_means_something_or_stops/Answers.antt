@@ -7,7 +7,7 @@ pub returns-clause-some : goal.returns-clause-some
 returns-clause-some c = some_answer
 
 pub returns-clause-one_list : goal.returns-clause-one_list
-returns-clause-one_list c d words l k means other = one_front d words l k means.front other.front
+returns-clause-one_list c d words l k means other = one_front d words l k means.whole.front other.whole.front
 
 pub returns-clause-one_stop : goal.returns-clause-one_stop
 returns-clause-one_stop c = one_stop

@@ -13,4 +13,4 @@ returns-clause-alone c = front_alone
 pub returns-clause-none : goal.returns-clause-none
 returns-clause-none c = λ start d words front word more l m mistake stops of split means.
     mistaken {start_of = start} d words front word more split m stops.there mistake stops.read of stops.stops
-    (λ index value is. subst (λ x. are_accepted d.options x ≡ true) (says_once d front l split.l (front_says d front l means.front) split.says) means.accepted)
+    (λ index value is. subst (λ x. are_accepted d.options x ≡ true) (says_once d front l split.l (front_says d front l means.whole.front) split.says) means.whole.accepted)

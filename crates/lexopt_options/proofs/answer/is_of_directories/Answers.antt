@@ -1,5 +1,4 @@
-use Rattle.std.proofs.Common.{ap, sym, ◌∙◌}
-use Rattle.lexopt_options.specs.Answers.{are_directories}
+use Rattle.lexopt_options.proofs.Common.{ap, sym, ◌∙◌, are_directories}
 use Rattle.lexopt_options.proofs.Looked.{are_past, are_there, no_directories}
 use Rattle.lexopt_options.proofs.answer.is_of_directories.Goals as goal
 

@@ -1,6 +1,4 @@
-use Rattle.std.proofs.Common.{◌≡◌, ◌++◌, string_bytes, take}
-use Rattle.std.specs.List.{flat_map}
-use Rattle.lexopt_declaration.specs.Models.{spelling_view}
+use Rattle.lexopt_options.proofs.Common.{◌≡◌, ◌++◌, string_bytes, take, flat_map, spelling_view}
 use Rattle.lexopt_options.specs.Answers.{spelling_line}
 use Rattle.lexopt_options.proofs.answer.push_spellings.Given as goal
 

@@ -1,5 +1,4 @@
-use Rattle.lexopt_options.proofs.Common.{◌∙◌, None, Some, arith, ap, length, refl, sym, false≢true, state_at_end, declaration_of, options_of}
-use Rattle.lexopt_line_spec.proofs.Bounds.{positional_falls}
+use Rattle.lexopt_options.proofs.Common.{◌∙◌, None, Some, arith, ap, length, refl, sym, false≢true, state_at_end, declaration_of, options_of, positional_falls}
 use Rattle.lexopt_options.proofs.Beginnings.{end_begun, lacking_begun, missing_begun, rest_begun, separated_begun, undeclared_begun, unexpected_begun}
 use Rattle.lexopt_options.proofs.Keys.{found_within}
 use Rattle.lexopt_options.proofs.Fronts.{has_nothing, has_option, has_positional, option_there}

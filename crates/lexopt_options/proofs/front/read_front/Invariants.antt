@@ -1,6 +1,4 @@
-use Rattle.lexopt_options.proofs.Common.{◌≡◌, false, declaration_of}
-use Rattle.lexopt_line_spec.specs.Bound.{bound}
-use Rattle.lexopt_options.specs.declared.rest.RestStart.TheVariants.{Separated}
+use Rattle.lexopt_options.proofs.Common.{◌≡◌, false, declaration_of, bound, Separated}
 use Rattle.lexopt_options.proofs.Fronts.{HasReached}
 use Rattle.lexopt_options.proofs.front.read_front.Given as goal
 

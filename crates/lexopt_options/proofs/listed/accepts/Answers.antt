@@ -1,11 +1,6 @@
-use Rattle.std.proofs.Common.{ap, sym, ◌∙◌, ◌==◌}
-use Rattle.std.specs.Cmp.Lexicographic.{pointwise}
-use Rattle.std.specs.List.{list_any}
-use Rattle.lexopt_options_spec.specs.Declaration as spec
-use Rattle.lexopt_declaration.specs.Models.{words_view}
-use Rattle.lexopt_options.proofs.Accepted.{listed_by}
+use Rattle.std.proofs.Common.{sym}
+use Rattle.lexopt_options.proofs.Accepted.{accepts_by}
 use Rattle.lexopt_options.proofs.listed.accepts.Goals as goal
 
 pub returns-in-Listed : goal.returns-in-Listed
-returns-in-Listed c =
-    c.is_listed.ensures ∙ ap (λ v. list_any (λ own. pointwise ◌==◌ own.now v) c.in-Listed.values.now) c.as_bytes.ensures ∙ listed_by c.args.value.now c.in-Listed.values.now ∙ sym (ap (λ w. spec.accepts (words_view w) c.args.value.now) c.in-Listed.is)
+returns-in-Listed c = sym (accepts_by c.args.words c.in-Listed.values c.args.value.now c.is_listed.result c.in-Listed.is (rw c.as_bytes.ensures at c.is_listed.ensures))

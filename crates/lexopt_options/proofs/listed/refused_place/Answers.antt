@@ -1,5 +1,4 @@
-use Rattle.std.proofs.Common.{sym}
-use Rattle.lexopt_declaration.specs.Models.{words_view}
+use Rattle.lexopt_options.proofs.Common.{sym, words_view}
 use Rattle.lexopt_options.proofs.Accepted.{accepts_any, any_accepted}
 use Rattle.lexopt_options.proofs.listed.refused_place.Goals as goal
 

@@ -1,5 +1,4 @@
-use Rattle.std.proofs.Common.{ap}
-use Rattle.lexopt_options.specs.Keys.{is_positional}
+use Rattle.lexopt_options.proofs.Common.{ap, is_positional}
 use Rattle.lexopt_options.proofs.Given.{given_one}
 use Rattle.lexopt_options.proofs.places.give_key.Goals as goal
 

@@ -2,12 +2,13 @@ use Rattle.std.proofs.Common.{ap, length, subst, sym, ◌∙◌, ◌<◌, ◌≤
 use Rattle.std.proofs.lemmas.Bool.{false≢true}
 use Rattle.lexopt_options.specs.Declarations.{declaration_of, options_of, positionals_of}
 use Rattle.lexopt_options.specs.Keys.{parsed_words}
+use Rattle.lexopt_options_spec.specs.Declaration.{has}
 use Rattle.lexopt_options_spec.specs.Legal.{IsWithin, most}
 use Rattle.lexopt_options_spec.specs.Places.{least}
 use Rattle.lexopt_options_spec.specs.Stops.{required_placeholder}
-use Rattle.lexopt_options.proofs.Seen.{none_required}
+use Rattle.lexopt_options.proofs.Seen.{none_apart, none_required}
 use Rattle.lexopt_options.proofs.TakenWords.{all_taken}
-use Rattle.lexopt_options.proofs.WholeLines.{lacks_argument, lacks_option, refuses_word}
+use Rattle.lexopt_options.proofs.WholeLines.{excludes_option, lacks_argument, lacks_option, refuses_word}
 use Rattle.lexopt_options.proofs.read.end_mistake.Goals as goal
 
 pub returns-then-is_complete : goal.returns-then-is_complete
@@ -19,6 +20,7 @@ returns-then-is_complete g c = λ counted within.
       enough = subst (λ n. least d.positionals ≤ n) counted complete.0;
       taken = all_taken (positionals_of o) (parsed_words c.args.parsed.now) complete.1 (subst (λ n. IsWithin n (most d.positionals)) counted within);
       all = λ i needed. absurd (false≢true (sym (none_required (options_of o) i complete.2) ∙ needed));
+      apart = none_apart (options_of o) (λ i. has i c.args.seen.now) complete.3;
     }
 
 pub returns-then-count-least : goal.returns-then-count-least
@@ -46,6 +48,16 @@ returns-in-Some-missing_option g c = λ counted within.
     let lacking = c.in-Some-missing_option.ensures in
     lacks_option d words c.args.seen.now c.in-Some-missing_option.names lacking.0 enough taken lacking.1 lacking.2
 
+pub returns-in-Some-exclusive_options : goal.returns-in-Some-exclusive_options
+returns-in-Some-exclusive_options g c = λ counted within.
+    let d = declaration_of c.args.options.now in
+    let words = parsed_words c.args.parsed.now in
+    let enough : least d.positionals ≤ length words = subst (λ n. n ≤ length words) c.least.ensures (subst (λ n. c.least.result ≤ n) counted c.if-count-least.false) in
+    let taken = rw c.in_default.is at c.in_ok-mistake.ensures (subst (λ n. IsWithin n (most d.positionals)) counted within) in
+    let all = rw c.in_default-missing_option.is at c.missing_option.ensures in
+    let found = c.in-Some-exclusive_options.ensures in
+    excludes_option d words c.args.seen.now c.in-Some-exclusive_options.names c.in-Some-exclusive_options.others found.0 found.1 enough taken all found.2 found.3 found.4
+
 pub returns-in-None : goal.returns-in-None
 returns-in-None g c = λ counted within.
     let d = declaration_of c.args.options.now in
@@ -53,5 +65,6 @@ returns-in-None g c = λ counted within.
     record {
       enough = subst (λ n. n ≤ length words) c.least.ensures (subst (λ n. c.least.result ≤ n) counted c.if-count-least.false);
       taken = rw c.in_default.is at c.in_ok-mistake.ensures (subst (λ n. IsWithin n (most d.positionals)) counted within);
-      all = c.in-None.ensures;
+      all = rw c.in_default-missing_option.is at c.missing_option.ensures;
+      apart = c.in-None.ensures;
     }

@@ -1,5 +1,4 @@
-use Rattle.std.proofs.Common.{ap}
-use Rattle.lexopt_spec.specs.UnreadLine.{UnreadLine}
+use Rattle.lexopt_options.proofs.Common.{ap, UnreadLine}
 use Rattle.lexopt_options.proofs.rest.complete_parsed.Goals as goal
 
 pub read_front-requires-clause-before : goal.read_front-requires-clause-before

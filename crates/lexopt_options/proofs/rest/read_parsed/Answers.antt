@@ -1,9 +1,5 @@
-use Rattle.std.proofs.Common.{List, ap, subst, sym, ◌∙◌, ℕ}
-use Rattle.lexopt_spec.specs.UnreadLine.{UnreadLine}
-use Rattle.lexopt_options_spec.specs.Stops.{IsOfOption}
+use Rattle.lexopt_options.proofs.Common.{ap, sym, ◌∙◌, UnreadLine, by_all, by_front, early}
 use Rattle.lexopt_options.specs.declared.refused.Line.TheVariants as line
-use Rattle.lexopt_options.specs.RestLines.{IsRestRead, by_all, by_front, early}
-use Rattle.lexopt_options.specs.RestStarts.{start_view}
 use Rattle.lexopt_options.proofs.Beginnings.{nothing_pending}
 use Rattle.lexopt_options.proofs.RestRead.{front_ended, none_ended, surplus_ended, whole_end}
 use Rattle.lexopt_options.proofs.rest.read_parsed.Goals as goal
@@ -21,7 +17,7 @@ returns-in-End g c = λ words is.
     let o = c.args.options.now in
     let ended = rw c.in-End.is at c.in_ok-ended.ensures words is in
     let read = c.read_keys.new.read in
-    subst (λ (rest : List (List ℕ)). IsRestRead (start_view c.args.begins) o words rest c.in_ok-line-in-End.line) (sym c.new.ensures.items)
+    rw c.new.ensures.items
     (by_all c.in_ok-line-in-End.line (none_ended o c.args.begins words read.count read.seen.items read.parsed.items c.read_keys.new.parser ended)
     (c.in_ok-line-in-End.ensures words c.read_keys.new.parser (whole_end o c.args.begins words read.count read.seen.items read.parsed.items c.read_keys.new.parser ended)))
 
@@ -31,7 +27,7 @@ returns-then-begins_here g c = λ words is.
     let read = c.read_keys.new.read in
     let ended = rw c.in-Positional.is at c.in_ok-ended.ensures words is in
     let front = front_ended o c.args.begins words read.count read.seen.items read.parsed.items c.in-Positional.word c.read_keys.new.parser (sym c.begins_here.ensures ∙ c.if-begins_here.true) ended in
-    subst (λ (rest : List (List ℕ)). IsRestRead (start_view c.args.begins) o words rest c.in_ok-line-in-Positional.line) (sym c.in_ok-rest-in-Positional.ensures)
+    rw c.in_ok-rest-in-Positional.ensures
     (by_front front.0 c.in-Positional.word c.read_keys.new.parser.words c.in_ok-line-in-Positional.line front.2 (c.in_ok-line-in-Positional.ensures front.0 front.1 front.3))
 
 pub returns-in-Positional : goal.returns-in-Positional
@@ -40,17 +36,17 @@ returns-in-Positional g c = λ words is.
     let read = c.read_keys.new.read in
     let ended = rw c.in-Positional.is at c.in_ok-ended.ensures words is in
     let whole = surplus_ended o c.args.begins words read.count read.seen.items read.parsed.items c.in-Positional.word c.read_keys.new.parser (sym c.begins_here.ensures ∙ c.if-begins_here.false) ended in
-    subst (λ (rest : List (List ℕ)). IsRestRead (start_view c.args.begins) o words rest c.in_ok-line-in-Positional-2.line) (sym c.new-else-begins_here.ensures.items)
+    rw c.new-else-begins_here.ensures.items
     (by_all c.in_ok-line-in-Positional-2.line whole.0 (c.in_ok-line-in-Positional-2.ensures words c.read_keys.new.parser whole.1))
 
 pub returns-in-Asked : goal.returns-in-Asked
 returns-in-Asked g c = λ words is.
     let ended = rw c.in-Asked.is at c.in_ok-ended.ensures words is in
-    subst (λ (rest : List (List ℕ)). IsRestRead (start_view c.args.begins) c.args.options.now words rest (line.Asked c.in-Asked.asked)) (sym c.new-in-Asked.ensures.items) (early (line.Asked c.in-Asked.asked) ended)
+    rw c.new-in-Asked.ensures.items (early _ ended)
 
 pub returns : goal.returns
 returns g c = λ words is.
     let ended = rw c.in-Mistake.is at c.in_ok-ended.ensures words is in
     let refused = c.refused_for-refused.ensures words ended.0 in
-    subst (λ (rest : List (List ℕ)). IsRestRead (start_view c.args.begins) c.args.options.now words rest (line.Refused c.refused_for-refused.result)) (sym c.new-in-Mistake.ensures.items)
-    (early (line.Refused c.refused_for-refused.result) (refused.0, subst IsOfOption (sym refused.1) ended.1))
+    rw c.new-in-Mistake.ensures.items
+    (early (line.Refused c.refused_for-refused.result) (refused.0, rw refused.1 ended.1))

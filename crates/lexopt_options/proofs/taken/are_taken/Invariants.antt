@@ -1,5 +1,4 @@
-use Rattle.lexopt_options.proofs.Common.{drop, map, positional_view, greedy}
-use Rattle.lexopt_options.proofs.Common.{owners}
+use Rattle.lexopt_options.proofs.Common.{drop, map, positional_view, greedy, owners}
 use Rattle.lexopt_options.proofs.TakenWords.{IsAt}
 use Rattle.lexopt_options.proofs.taken.are_taken.Given as goal
 

@@ -1,5 +1,4 @@
-use Rattle.lexopt_options.proofs.Common.{arith, map, refl, sym, ◌-◌, ◌≤◌, ◌∙◌, false≢true, positional_view, least}
-use Rattle.lexopt_options.specs.Taken.{Fits}
+use Rattle.lexopt_options.proofs.Common.{arith, map, refl, sym, ◌-◌, ◌≤◌, ◌∙◌, false≢true, positional_view, least, Fits}
 use Rattle.lexopt_options.proofs.TakenWords.{and_not, none_fits}
 use Rattle.lexopt_options.proofs.taken.can_fit.Goals as goal
 

@@ -1,5 +1,4 @@
-use Rattle.lexopt_options.proofs.Common.{◌≤◌, ◌<◌, ◌-◌, ℕ, map, positional_view, least}
-use Rattle.lexopt_options.specs.Taken.{Fits}
+use Rattle.lexopt_options.proofs.Common.{◌≤◌, ◌<◌, ◌-◌, ℕ, map, positional_view, least, Fits}
 use Rattle.lexopt_options.proofs.taken.can_fit.Given as goal
 
 abbrev pub invariant-loop-spare : goal.invariant-loop-spare

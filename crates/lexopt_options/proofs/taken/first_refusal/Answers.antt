@@ -1,5 +1,4 @@
-use Rattle.lexopt_options.proofs.Common.{arith, map, subst, sym, ◌∙◌, at_drop_all, positional_view, greedy, owners}
-use Rattle.lexopt_options.specs.Keys.{parsed_words}
+use Rattle.lexopt_options.proofs.Common.{arith, map, subst, sym, ◌∙◌, at_drop_all, positional_view, greedy, owners, parsed_words}
 use Rattle.lexopt_options.proofs.TakenWords.{IsAt, at_end, at_next, at_no_place, at_refused, parsed_no_word, parsed_word}
 use Rattle.lexopt_options.proofs.taken.first_refusal.Goals.{in-Positional, in-Some+in_ok-mistake+in_default-2, in_default-place_of, in_default}
 use Rattle.lexopt_options.proofs.taken.first_refusal.Goals as goal

@@ -1,5 +1,4 @@
-use Rattle.lexopt_options.proofs.Common.{◌≤◌, drop, map, positional_view, greedy, owners}
-use Rattle.lexopt_options.specs.Keys.{parsed_words}
+use Rattle.lexopt_options.proofs.Common.{◌≤◌, drop, map, positional_view, greedy, owners, parsed_words}
 use Rattle.lexopt_options.proofs.TakenWords.{IsAt}
 use Rattle.lexopt_options.proofs.taken.first_refusal.Given as goal
 

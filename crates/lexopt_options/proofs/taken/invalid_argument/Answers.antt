@@ -1,5 +1,4 @@
-use Rattle.lexopt_options.proofs.Common.{ap, map, sym, ◌-◌, ◌∙◌, positional_view, positionals_of, least}
-use Rattle.lexopt_options.specs.Keys.{parsed_words}
+use Rattle.lexopt_options.proofs.Common.{ap, map, sym, ◌-◌, ◌∙◌, positional_view, positionals_of, least, parsed_words}
 use Rattle.lexopt_options.proofs.TakenWords.{all_taken, invalid_line, parsed_counted}
 use Rattle.lexopt_options.proofs.taken.invalid_argument.Goals as goal
 

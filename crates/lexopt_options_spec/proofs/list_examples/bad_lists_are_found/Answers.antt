@@ -1,5 +1,4 @@
-use Rattle.std.proofs.Common.{[], ◌∷◌, codes, refl}
-use Rattle.lexopt_options_spec.specs.Declaration.{listed}
+use Rattle.lexopt_options_spec.proofs.Common.{[], ◌∷◌, codes, refl, listed}
 use Rattle.lexopt_options_spec.specs.Examples.{positional_of}
 use Rattle.lexopt_options_spec.proofs.list_examples.bad_lists_are_found.Goals as goal
 

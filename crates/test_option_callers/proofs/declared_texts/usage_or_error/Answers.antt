@@ -21,11 +21,12 @@ returns c =
           names = Short c.args.character;
           kind = kind.Flag Verbose;
           help = c.args.help;
-          details = record { ref_ptr = _; now = [] };
-          heading = record { ref_ptr = _; now = [] };
+          details = None;
+          heading = None;
           hidden = false;
           required = false;
           default = None;
+          exclusive = None;
           words = Files;
           hides_list = false;
           aliases = record { ref_ptr = _; now = [] };

@@ -1,12 +1,9 @@
-use Rattle.lexopt_commands.proofs.Common.{◌∙◌, ap, sym, meaning, names_of}
-use Rattle.lexopt_commands.specs.Mistakes.{unknown_command, missing_command}
-use Rattle.lexopt_commands.specs.Views.{meaning_view}
+use Rattle.lexopt_commands.proofs.Common.{◌∙◌, ap, sym, names_of, unknown_command, missing_command}
 use Rattle.lexopt_commands.proofs.commands.Commands.end.Goals as goal
 
 pub returns-in_ok-names_of-in-Missing : goal.returns-in_ok-names_of-in-Missing
 returns-in_ok-names_of-in-Missing g c =
-    let words = c.args.words.items in
-    let means = ap (λ cs. meaning cs words) (sym c.commands.ensures.same) ∙ sym c.in_ok-name.ensures ∙ ap meaning_view c.in-Missing.is in
+    let means = sym (rw (c.in-Missing.is, c.commands.ensures.same) at c.in_ok-name.ensures) in
     let named = c.in_ok-names_of-in-Missing.ensures ∙ ap names_of c.commands-in-Missing.ensures.same in
     record {
       program = c.refuse.ensures.program;
@@ -17,8 +14,7 @@ returns-in_ok-names_of-in-Missing g c =
 
 pub returns-in_ok-hints-in-Unknown : goal.returns-in_ok-hints-in-Unknown
 returns-in_ok-hints-in-Unknown g c =
-    let words = c.args.words.items in
-    let means = ap (λ cs. meaning cs words) (sym c.commands.ensures.same) ∙ sym c.in_ok-name.ensures ∙ ap meaning_view c.in-Unknown.is in
+    let means = sym (rw (c.in-Unknown.is, c.commands.ensures.same) at c.in_ok-name.ensures) in
     let hinted = rw c.commands-in-Unknown.ensures.same at c.in_ok-hints-in-Unknown.ensures in
     record {
       program = c.refuse-in-Unknown.ensures.program;

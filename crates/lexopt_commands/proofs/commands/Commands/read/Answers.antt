@@ -1,5 +1,4 @@
-use Rattle.lexopt_commands.proofs.Common.{◌∷◌, inl, inr, declaration_of, IfOk-weaker}
-use Rattle.lexopt_options_spec.specs.Asking.{first_asked}
+use Rattle.lexopt_commands.proofs.Common.{◌∷◌, inl, inr, declaration_of, IfOk-weaker, first_asked}
 use Rattle.lexopt_commands.proofs.LinesRead.{none_asked, of_asked, of_name, of_parsed}
 use Rattle.lexopt_commands.proofs.commands.Commands.read.Goals as goal
 

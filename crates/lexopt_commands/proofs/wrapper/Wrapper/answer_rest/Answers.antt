@@ -1,8 +1,5 @@
-use Rattle.lexopt_commands.proofs.Common.{◌∙◌, ap, inr, refl, subst, sym, IsRestRead}
+use Rattle.lexopt_commands.proofs.Common.{◌∙◌, inr, refl, sym}
 use Rattle.std.proofs.lemmas.Bool.{eqb-true}
-use Rattle.lexopt_declaration.specs.Lookups.{help_names}
-use Rattle.lexopt_options.specs.declared.refused.Line.TheVariants as line
-use Rattle.lexopt_options.specs.RestStarts.{start_view}
 use Rattle.lexopt_options.proofs.RestRead.{no_length}
 use Rattle.lexopt_commands.proofs.wrapper.Wrapper.answer_rest.Goals as goal
 
@@ -12,8 +9,8 @@ returns-then-is_empty g c = λ words width read.
     let none = no_length c.args.rest.items (sym c.args.rest.ok.0 ∙ zero) in
     inr (record {
       required = c.if-self.true;
-      read = subst (λ rest. IsRestRead (start_view c.args.self.now.rest.start) c.args.self.now.options words rest (line.Parsed c.args.parsed)) none read;
+      read = rw none at read;
       program = c.program.ensures;
-      help = c.help_names_of.ensures ∙ ap help_names c.options.ensures.same;
+      help = rw c.options.ensures.same at c.help_names_of.ensures;
       mistake = refl;
     })

@@ -1,5 +1,4 @@
-use Rattle.std.proofs.Common.{arith}
-use Rattle.std.proofs.lemmas.Grind.{common_steps}
+use Rattle.lexopt_declaration.proofs.Common.{arith, common_steps}
 use Rattle.lexopt_declaration.proofs.declaration.NamesDisplay.fmt.Goals as goal
 
 pub returns-in_ok-write_str-in-Short-clause-writes : goal.returns-in_ok-write_str-in-Short-clause-writes

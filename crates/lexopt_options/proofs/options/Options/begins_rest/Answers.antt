@@ -1,5 +1,4 @@
-use Rattle.lexopt_options.proofs.Common.{ap, declaration_of}
-use Rattle.lexopt_options.specs.RestStarts.{start_view}
+use Rattle.lexopt_options.proofs.Common.{ap, declaration_of, start_view}
 use Rattle.lexopt_options.proofs.Beginnings.{nowhere_follows, separator_follows}
 use Rattle.lexopt_options.proofs.options.Options.begins_rest.Goals as goal
 

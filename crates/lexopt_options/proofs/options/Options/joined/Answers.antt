@@ -1,5 +1,4 @@
-use Rattle.lexopt_options.proofs.Common.{None, Some, refl, string_bytes, length-map, declaration_of}
-use Rattle.lexopt_options.specs.Roles.{joined_view}
+use Rattle.lexopt_options.proofs.Common.{None, Some, refl, string_bytes, length-map, declaration_of, joined_view}
 use Rattle.lexopt_options.proofs.Completing.{joined_declared}
 use Rattle.lexopt_options.proofs.options.Options.joined.Goals as goal
 

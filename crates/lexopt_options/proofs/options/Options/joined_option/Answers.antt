@@ -1,5 +1,4 @@
-use Rattle.lexopt_options.proofs.Common.{◌∙◌, sym, false≢true, declaration_of}
-use Rattle.lexopt_options.specs.Roles.{joined_view}
+use Rattle.lexopt_options.proofs.Common.{◌∙◌, sym, false≢true, declaration_of, joined_view}
 use Rattle.lexopt_options.proofs.Completing.{joined_so_far, none_joined, plain_joined}
 use Rattle.lexopt_options.proofs.Fronts.{nowhere_joined}
 use Rattle.lexopt_options.proofs.options.Options.joined_option.Goals as goal

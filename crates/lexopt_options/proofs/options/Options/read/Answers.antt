@@ -1,8 +1,4 @@
-use Rattle.std.proofs.Common.{arith, subst, sym, ◌∙◌}
-use Rattle.std.proofs.lemmas.Bool.{eqb-true}
-use Rattle.std.proofs.lemmas.List.{nil_from_length}
-use Rattle.std.proofs.lemmas.Result.{IfOk-weaker}
-use Rattle.lexopt_options.specs.Lines.{LineMeans}
+use Rattle.lexopt_options.proofs.Common.{arith, subst, sym, ◌∙◌, eqb-true, nil_from_length, IfOk-weaker, LineMeans}
 use Rattle.lexopt_options.specs.declared.refused.Line.TheVariants as line
 use Rattle.lexopt_options.proofs.WholeLines.{line_of, no_words}
 use Rattle.lexopt_options.proofs.options.Options.read.Goals as goal
@@ -13,7 +9,7 @@ returns-then-means_nothing-clause-line g c =
     let zero = eqb-true c.args.words.len 0 (sym c.is_empty.ensures ∙ c.if-is_empty.true) in
     let empty = nil_from_length c.args.words.items (omega (arith, zero, c.args.words.ok.0)) in
     let complete = c.means_nothing.ensures.0 c.if-means_nothing.true in
-    subst (λ words. LineMeans o words c.new.result.items) (sym empty) (no_words o c.new.result.items c.new.ensures.items complete.0 complete.1 complete.2 complete.3)
+    subst (λ words. LineMeans o words c.new.result.items) (sym empty) (no_words o c.new.result.items c.new.ensures.items complete.0 complete.1 complete.2 complete.4)
 
 pub returns-then-means_nothing-clause-answered : goal.returns-then-means_nothing-clause-answered
 returns-then-means_nothing-clause-answered g c = λ l means. line_of c.args.self.now c.args.words.items (line.Parsed c.new.result) (returns-then-means_nothing-clause-line g c) l means

@@ -1,5 +1,4 @@
-use Rattle.lexopt_options.proofs.Common.{length-map, declaration_of}
-use Rattle.lexopt_options.specs.Roles.{place_view}
+use Rattle.lexopt_options.proofs.Common.{length-map, declaration_of, place_view}
 use Rattle.lexopt_options.proofs.Completing.{role_declared}
 use Rattle.lexopt_options.proofs.options.Options.role.Goals as goal
 

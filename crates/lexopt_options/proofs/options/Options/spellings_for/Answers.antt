@@ -1,5 +1,4 @@
-use Rattle.lexopt_options.proofs.Common.{refl, subst, sym, IsSome, declaration_of, options_of}
-use Rattle.lexopt_options.specs.States.{IsFrontOf}
+use Rattle.lexopt_options.proofs.Common.{refl, subst, sym, IsSome, declaration_of, options_of, IsFrontOf}
 use Rattle.lexopt_options.proofs.Completing.{all_named, none_begins, none_stands, offered_all}
 use Rattle.lexopt_options.proofs.options.Options.spellings_for.Goals as goal
 

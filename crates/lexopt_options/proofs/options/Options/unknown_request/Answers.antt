@@ -1,5 +1,4 @@
-use Rattle.std.proofs.Common.{ap, refl, ◌∙◌}
-use Rattle.lexopt_declaration.specs.Scripts.{variable_name}
+use Rattle.std.proofs.Common.{refl}
 use Rattle.lexopt_options.proofs.options.Options.unknown_request.Goals as goal
 
 pub returns : goal.returns
@@ -8,6 +7,6 @@ returns g c = record {
   help = c.help_names.ensures;
   before = c.new.ensures.items;
   name = c.in_ok-variable.variable;
-  variable = c.in_ok-variable.ensures ∙ ap variable_name c.program-program.ensures;
+  variable = rw c.program-program.ensures at c.in_ok-variable.ensures;
   mistake = refl;
 }

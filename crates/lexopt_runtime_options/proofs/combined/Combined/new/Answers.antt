@@ -4,6 +4,7 @@ use Rattle.std.proofs.lemmas.List.{take_all, take_more}
 use Rattle.std.proofs.lemmas.Grind.{flat_map-append}
 use Rattle.lexopt_options_spec.specs.Declarable.{first_fault}
 use Rattle.lexopt_declaration.specs.Models.{option_view}
+use Rattle.lexopt_runtime_options.specs.Combined.{with_options}
 use Rattle.lexopt_runtime_options.proofs.combined.Combined.new.Goals as goal
 
 more : {X A : Type 0} (f : X → List A) (xs : List X) (i : ℕ) (x : X) (before old new : List A) → i < length xs → x ≡ get_or xs i x → new ≡ old ++ f x → old ≡ before ++ flat_map f (take i xs)
@@ -26,4 +27,5 @@ invariant_of-result-clause-sound g c =
 pub returns : goal.returns
 returns g c =
     let all = take_all c.loop-group.group-index c.args.groups.now (omega (arith, c.loop-group-test.false)) in
-    (refl, c.loop-group.invariant ∙ ap (λ gs. c.args.declaration.now.options.now ++ flat_map (λ group. group.options.now) gs) all)
+    let options = c.loop-group.invariant ∙ ap (λ gs. c.args.declaration.now.options.now ++ flat_map (λ group. group.options.now) gs) all in
+    (options, refl, ap (with_options c.args.declaration.now) options)

@@ -1,0 +1,4 @@
+pub mod AnyLines
+pub mod TaskHelp
+pub mod TaskLines
+pub mod TypedTasks

@@ -1,0 +1,3 @@
+pub mod AnyCommands
+pub mod Tasks
+pub mod Texts
