@@ -1,16 +1,18 @@
 //! The spellings of options that are offered where something is typed, and the values in lists that
 //! begin with it.
 ghost use Rattle.std.specs.Prelude.{◌≡◌, ◌∷◌, ◌++◌, [], IfOk, OnOk, false, filter, map, nat_eq};
-ghost use Rattle.std.specs.Prelude.{ℕ, List, string_bytes};
-ghost use Rattle.std.specs.List.{flat_map, starts_with};
+ghost use Rattle.std.specs.Prelude.{ℕ, List, option_map, string_bytes};
+ghost use Rattle.std.specs.List.{flat_map, list_any, starts_with};
 ghost use Rattle.lexopt_line_spec.specs.Table as table;
 ghost use Rattle.lexopt_options_spec.specs.Completion as spec;
-ghost use Rattle.lexopt_options_spec.specs.Completion.{AreText, offered, spelled, spelled_by};
-ghost use Rattle.lexopt_options_spec.specs.Completion.{spelling, spellings};
+ghost use Rattle.lexopt_options_spec.specs.Completion.{AreText, is_free, offered, spelled};
+ghost use Rattle.lexopt_options_spec.specs.Completion.{spelled_by, spelling, spellings_if};
+ghost use Rattle.lexopt_options_spec.specs.Legal as legal;
 ghost use Rattle.lexopt_declaration.specs.Models.{names_list, option_view, spelling_view};
 ghost use Rattle.lexopt_declaration.specs.Models.{words_view};
 
 use crate::declaration::{Declared, Names, Words, are_text};
+use crate::lookup::are_same;
 use std::alloc::{AllocError, Global};
 
 /// A word that is an option without a value.
@@ -125,25 +127,62 @@ fn add_spellings<'a, F, V, M, S>(
     add_aliases(alloc, spellings, option.aliases, option.help, typed)
 }
 
-/// Returns those spellings of options that are offered where something was typed, in order.
+// The exclusive group of the option at this index, if it is in one.
+fn exclusive_at<'a, F, V, M, S>(
+    options: &[Declared<'a, F, V, M, S>],
+    index: usize,
+) -> Option<&'a str>
+    ensures { option_map (λ own. own.now) result
+        ≡ legal.exclusive_at (map option_view options.now) index }
+{
+    match options.get(index) {
+        Some(option) => option.exclusive,
+        None => None,
+    }
+}
+
+// Whether the options at these indices exclude each other.
+fn exclude<F, V, M, S>(options: &[Declared<'_, F, V, M, S>], index: usize, other: usize) -> bool
+    ensures { result ≡ legal.exclude (map option_view options.now) index other }
+{
+    other != index && are_same(exclusive_at(options, index), exclusive_at(options, other))
+}
+
+// Whether an option at one of these indices excludes the option at this one.
+fn is_excluded<F, V, M, S>(
+    options: &[Declared<'_, F, V, M, S>],
+    indices: &[usize],
+    index: usize,
+) -> bool
+    ensures { result
+        ≡ list_any (λ k. legal.exclude (map option_view options.now) k index) indices.now }
+{
+    indices.iter().any(|other| exclude(options, *other, index))
+}
+
+/// Returns those spellings of options that are offered where something was typed, in order, without
+/// those of options that an option at one of these indices excludes.
 ///
 /// # Errors
 ///
 /// Returns `AllocError` if an allocation fails.
-#[tactic(auto, using(crate::proofs::Spelled::offered_more))]
 pub fn spellings_of<'a, F, V, M, S>(
     alloc: Global,
     options: &[Declared<'a, F, V, M, S>],
+    indices: &[usize],
     typed: &[u8],
 ) -> Result<Vec<Spelling<'a>>, AllocError>
     ensures text { AreText (map option_view options.now) }
-    ensures spellings { IfOk result (λ found. map spelling_view found.items
-        ≡ offered typed.now (spellings (map option_view options.now))) }
+    ensures spellings { let all = map option_view options.now in
+        IfOk result (λ found. map spelling_view found.items
+        ≡ offered typed.now (spellings_if (is_free all indices.now) all)) }
 {
     are_text(options);
     let mut spellings = Vec::new(alloc);
-    for option in options {
-        add_spellings(alloc, &mut spellings, option, typed)?;
+    for (index, option) in options.iter().enumerate() {
+        if !is_excluded(options, indices, index) {
+            add_spellings(alloc, &mut spellings, option, typed)?;
+        }
     }
     Ok(spellings)
 }

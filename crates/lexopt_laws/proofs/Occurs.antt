@@ -101,6 +101,6 @@ in_a_line d name i sound good_lists text names declared =
     let index = same_Some possible.index i (sym possible.declared ∙ ap (index_of d.options) (sym same) ∙ declared) in (
       spelling name ∷ possible.rest,
       possible.before ++ possible.parsed ∷ possible.later,
-      record { whole = possible.line_means; apart = made.1 (alone d.options i) },
+      record { whole = possible.line_means; apart = made.3 (alone d.options i) },
       among i possible.before possible.parsed possible.later (is_one i possible.parsed (subst (λ j. IsOption j possible.parsed) index possible.is)),
     )

@@ -1044,6 +1044,12 @@ fn what_is_typed_is_completed()
     ensures whole_hidden_option { Completes hiding_sample [] (codes "-o") (codes "-o") }
     ensures another { Completes (sample [] true) [] (codes "--in") (codes "--output") → ⊥ }
     ensures no_option { Completes (sample [] true) [] (codes "-z") (codes "-z") → ⊥ }
+    ensures again_beside_an_exclusive_option { Completes exclusive_sample (codes "-v" ∷ [])
+        (codes "--verb") (codes "--verbose") }
+    ensures excluded { Completes exclusive_sample (codes "-v" ∷ []) (codes "--q") (codes "--quiet")
+        → ⊥ }
+    ensures excluded_whole { Completes exclusive_sample (codes "-v" ∷ []) (codes "--quiet")
+        (codes "--quiet") → ⊥ }
     ensures part_of_a_character { (d : Declaration) (words : List (List ℕ))
         → Completes d words (0x2D ∷ 0xC3 ∷ []) (0x2D ∷ 0xC3 ∷ 0xA9 ∷ []) → ⊥ }
 {}

@@ -27,15 +27,15 @@ pub nothing_pending : (u w : UnreadLine) (word : List ℕ) → Next u (steps.pos
 nothing_pending u w word next = ap (pending_in w.short_equals) (word_read u w word (enough NextStep u (steps.positional word) w next (λ is. cc))).none
 
 -- a rest begins with a positional that the separator is before
-pub separated_begun : (begins : RestStart) (d : Declaration) (u v : UnreadLine) (words own : List (List ℕ)) (word : List ℕ) (accepted : Bool) (last : Option (ℕ × List ℕ)) (going : Option ℕ) → is_sound d.options ≡ true
-    → HasReached d (start d.short_equals words) u own accepted last going → (begins ≡ Separated → u.ended ≡ false) → Next u (steps.positional word) v → is_separated begins v.ended ≡ true → IsBegun (start_view begins) d words (begun.Rest word) v
+pub separated_begun : {seen : List ℕ} (begins : RestStart) (d : Declaration) (u v : UnreadLine) (words own : List (List ℕ)) (word : List ℕ) (accepted : Bool) (last : Option (ℕ × List ℕ)) (going : Option ℕ) → is_sound d.options ≡ true
+    → HasReached d (start d.short_equals words) u own accepted last going seen → (begins ≡ Separated → u.ended ≡ false) → Next u (steps.positional word) v → is_separated begins v.ended ≡ true → IsBegun (start_view begins) d words (begun.Rest word) v
 separated_begun Surplus d u v words own word accepted last going sound has not next is = absurd (false≢true is)
 separated_begun Separated d u v words own word accepted last going sound has not next is =
     let read = front_read separated d sound words has.l u v word has.at.upto (not refl, is) next in ((λ same. cc), nothing_pending u v word next, (read.front, read.split))
 
 -- one positional too many
-pub rest_begun : (begins : RestStart) (d : Declaration) (u v : UnreadLine) (words own : List (List ℕ)) (word : List ℕ) (accepted : Bool) (last : Option (ℕ × List ℕ)) (going : Option ℕ) → is_sound d.options ≡ true
-    → HasReached d (start d.short_equals words) u own accepted last going → Next u (steps.positional word) v → is_separated begins v.ended ≡ false → most d.positionals ≡ Some (length own) → IsBegun (start_view begins) d words (surplus_begun begins word) v
+pub rest_begun : {seen : List ℕ} (begins : RestStart) (d : Declaration) (u v : UnreadLine) (words own : List (List ℕ)) (word : List ℕ) (accepted : Bool) (last : Option (ℕ × List ℕ)) (going : Option ℕ) → is_sound d.options ≡ true
+    → HasReached d (start d.short_equals words) u own accepted last going seen → Next u (steps.positional word) v → is_separated begins v.ended ≡ false → most d.positionals ≡ Some (length own) → IsBegun (start_view begins) d words (surplus_begun begins word) v
 rest_begun Surplus d u v words own word accepted last going sound has next none full =
     let full_is = full ∙ ap (λ n. Some n) (sym (counted has)) in
     let read = front_read surplus d sound words has.l u v word has.at.upto full_is next in ((λ _. surplus_nowhere d words has.l going u v word has.at next full_is), nothing_pending u v word next, (read.front, read.split))
@@ -44,20 +44,20 @@ rest_begun Separated d u v words own word accepted last going sound has next non
     (surplus_nowhere d words has.l going u v word has.at next full_is, surplus_alone d words has.l u v word has.at.upto next none full_is, λ _. tt)
 
 -- an option has this mistake
-stops_begun : {begins : rests.RestStart} {d : Declaration} {u : UnreadLine} {own : List (List ℕ)} {accepted : Bool} {last : Option (ℕ × List ℕ)} {going : Option ℕ} (v : UnreadLine) (words : List (List ℕ)) (found : Option Front) (has : HasReached d (start d.short_equals words) u own accepted last going) → IsFrontOf d words found
+stops_begun : {begins : rests.RestStart} {d : Declaration} {u : UnreadLine} {own : List (List ℕ)} {accepted : Bool} {last : Option (ℕ × List ℕ)} {going : Option ℕ} {seen : List ℕ} (v : UnreadLine) (words : List (List ℕ)) (found : Option Front) (has : HasReached d (start d.short_equals words) u own accepted last going seen) → IsFrontOf d words found
     → TellsEnd d words found → (why : Mistake) → IsOfOption why → Stops d has.l u why → ((index : ℕ) (value : List ℕ) → why ≡ invalid_value index value → ⊥) → IsBegun begins d words (begun.Front found) v
 stops_begun {begins} {d} {u} v words found has is tells why of_option stops never =
     (is, (λ before word more part. mistaken d words before word more part has.l u why has.at.upto of_option stops (λ index value same. absurd (never index value same))), λ _. tells)
 
-pub undeclared_begun : {begins : rests.RestStart} (d : Declaration) (u v : UnreadLine) (words own : List (List ℕ)) (accepted : Bool) (last : Option (ℕ × List ℕ)) (going : Option ℕ) (short : Option ℕ)
-    → HasReached d (start d.short_equals words) u own accepted last going → UndeclaredNext d u short v → IsBegun begins d words (begun.Front None) v
+pub undeclared_begun : {begins : rests.RestStart} {seen : List ℕ} (d : Declaration) (u v : UnreadLine) (words own : List (List ℕ)) (accepted : Bool) (last : Option (ℕ × List ℕ)) (going : Option ℕ) (short : Option ℕ)
+    → HasReached d (start d.short_equals words) u own accepted last going seen → UndeclaredNext d u short v → IsBegun begins d words (begun.Front None) v
 undeclared_begun d u v words own accepted last going (Some c) has next =
     stops_begun v words None has (undeclared_nowhere d words has.l going u v (table.short c) has.at next.0 next.1) tt (unknown_option (table.short c) v.tail) tt (not_declared (table.short c) v next.0 next.1) (λ index value same. cc)
 undeclared_begun d u v words own accepted last going None has next =
     stops_begun v words None has (undeclared_nowhere d words has.l going u v (table.long next.0) has.at next.2 next.3) tt (unknown_option (table.long next.0) v.tail) tt (not_declared (table.long next.0) v next.2 next.3) (λ index value same. cc)
 
-pub unexpected_begun : {begins : rests.RestStart} (d : Declaration) (u v : UnreadLine) (words own : List (List ℕ)) (accepted : Bool) (last : Option (ℕ × List ℕ)) (going : Option ℕ) (option value : List ℕ)
-    → HasReached d (start d.short_equals words) u own accepted last going → Next u (steps.unexpected option value) v → IsBegun begins d words (begun.Front None) v
+pub unexpected_begun : {begins : rests.RestStart} {seen : List ℕ} (d : Declaration) (u v : UnreadLine) (words own : List (List ℕ)) (accepted : Bool) (last : Option (ℕ × List ℕ)) (going : Option ℕ) (option value : List ℕ)
+    → HasReached d (start d.short_equals words) u own accepted last going seen → Next u (steps.unexpected option value) v → IsBegun begins d words (begun.Front None) v
 unexpected_begun d u v words own accepted last going option value has next =
     stops_begun v words None has (unexpected_nowhere d words has.l going u v option value has.at next) tt (unexpected_value option value) tt (value_of_flag option value v next) (λ index given same. cc)
 
@@ -83,15 +83,15 @@ lacking_tells d index w v words front is lacks same given = subst (λ s. TellsSe
     by other given leaves = absurd given
 
 pub lacking_begun : {begins : rests.RestStart} (d : Declaration) (u v w : UnreadLine) (words : List (List ℕ)) (front : Front) (last : Option (ℕ × List ℕ)) (going : Option ℕ) (name : Name) (index : ℕ) → is_sound d.options ≡ true
-    → HasReached d (start d.short_equals words) u front.words.items front.accepted last going → front.last ≡ None → Next u (option_reply name) v → index_of d.options name ≡ Some index → IsAfterName d index v (after.Lacks front.state) w
+    → HasReached d (start d.short_equals words) u front.words.items front.accepted last going front.seen.items → front.last ≡ None → Next u (option_reply name) v → index_of d.options name ≡ Some index → IsAfterName d index v (after.Lacks front.state) w
     → IsBegun begins d words (begun.Front (Some front)) w
 lacking_begun d u v w words front last going name index sound has no_last next found lacks =
     let stopped = lacking_stops d u v w name index front.state sound next found lacks has.l in
     let is = front_lacking d u v w words front last going name index sound has no_last next found front.state refl lacks in
     stops_begun w words (Some front) has is (lacking_tells d index w v words front is front.state refl lacks) (missing_value index stopped.0) tt stopped.1 (λ i value same. cc)
 
-pub missing_begun : {begins : rests.RestStart} (d : Declaration) (u v w : UnreadLine) (words own : List (List ℕ)) (accepted : Bool) (last : Option (ℕ × List ℕ)) (going : Option ℕ) (name : Name) (index : ℕ) → is_sound d.options ≡ true
-    → HasReached d (start d.short_equals words) u own accepted last going → Next u (option_reply name) v → index_of d.options name ≡ Some index → IsAfterName d index v after.Missing w → IsBegun begins d words (begun.Front None) w
+pub missing_begun : {begins : rests.RestStart} {seen : List ℕ} (d : Declaration) (u v w : UnreadLine) (words own : List (List ℕ)) (accepted : Bool) (last : Option (ℕ × List ℕ)) (going : Option ℕ) (name : Name) (index : ℕ) → is_sound d.options ≡ true
+    → HasReached d (start d.short_equals words) u own accepted last going seen → Next u (option_reply name) v → index_of d.options name ≡ Some index → IsAfterName d index v after.Missing w → IsBegun begins d words (begun.Front None) w
 missing_begun d u v w words own accepted last going name index sound has next found (k, none, some, normal) =
     let kind_so = sym (kind_of_index d.options name index sound found) ∙ k in
     let stopped = values_stop d has.l u v name index next found kind_so none normal in
@@ -123,7 +123,7 @@ separated_view Separated is = refl
 
 -- the words are read to their end
 pub end_begun : (begins : RestStart) (d : Declaration) (u v : UnreadLine) (words : List (List ℕ)) (found : Front) (going : Option ℕ) → is_sound d.options ≡ true
-    → HasReached d (start d.short_equals words) u found.words.items found.accepted found.last going → (begins ≡ Separated → u.ended ≡ false) → Next u steps.end v → state_view found.state ≡ state_at_end going v.ended → IsBegun (start_view begins) d words (begun.Front (Some found)) v
+    → HasReached d (start d.short_equals words) u found.words.items found.accepted found.last going found.seen.items → (begins ≡ Separated → u.ended ≡ false) → Next u steps.end v → state_view found.state ≡ state_at_end going v.ended → IsBegun (start_view begins) d words (begun.Front (Some found)) v
 end_begun begins d u v words found going sound has not next state_is = (
   front_at_end d u v words found going sound has next state_is,
   ended_alone d words has.l u v has.at.upto (λ is. not (separated_view begins is)) next,

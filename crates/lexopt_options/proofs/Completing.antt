@@ -2,7 +2,9 @@
 use Rattle.lexopt_options.proofs.Common.{append-nil, zero, suc, ◌≡◌, ◌≤◌, ℕ, Bool, true, false, List, [], ◌∷◌, ◌++◌, map, filter, length, Option, Some, None, Vec, nat_eq, option_map, refl, sym, ap}
 use Rattle.lexopt_options.proofs.Common.{subst, ◌∙◌, inl, inr, arith, Result, Ok, Err, IfOk, Contains, flat_map, starts_with, IsUtf8, ◌<◌, ◌==◌, ◌≢◌, encode_utf8, and_parts, eqb-true, false≢true}
 use Rattle.lexopt_options.proofs.Common.{filter-append, same_Some, slice_get_within, BeginsWith, dash, MeansFront, parsed_item, last_item, same_last, front_says, says_once, Says, Item, Name, AreText}
-use Rattle.lexopt_options.proofs.Common.{HasRole, IsJoined, IsOption, JoinsValue, is_offered, joined_at, list_of, listed_by, offered_values, spelling, spellings, texts, values_at, filled}
+use Rattle.lexopt_options.proofs.Common.{HasRole, IsJoined, IsOption, JoinsValue, is_offered, joined_at, list_of, listed_by, offered_values, spelling, texts, values_at, filled}
+use Rattle.lexopt_options.proofs.Common.{Front, IsFront, IsFrontOf, state_view}
+use Rattle.lexopt_options_spec.specs.Completion.{is_free, spellings_if}
 use Rattle.lexopt_options.proofs.Common.{positional_words, words_at, declaration_of, options_of, long_name, option_view, positional_view, short_name, spelling_view, words_view, AllocError, Options}
 use Rattle.lexopt_options.proofs.Common.{Names}
 use Rattle.std.specs.Global.{Global}
@@ -25,7 +27,9 @@ use Rattle.lexopt_options.specs.Completions.{AreOffered, CanCome, Opens, joined_
 use Rattle.lexopt_options.specs.declared.complete.Joined.{Joined}
 use Rattle.lexopt_options.specs.declared.complete.Role.{Role}
 use Rattle.lexopt_options.specs.declared.complete.Role.TheVariants as role
-use Rattle.lexopt_options.specs.Roles.{IsDeclared, IsJoinedAt, IsRoleAt}
+use Rattle.lexopt_options.specs.Roles.{IsDeclared, IsJoinedAt, IsRoleAt, seen_of}
+use Rattle.lexopt_options.proofs.Fronts.{means_read, nowhere_comes}
+use Rattle.lexopt_options.proofs.Seen.{apart_free, free_apart}
 use Rattle.lexopt_options.proofs.Accepted.{view_there}
 
 -- ---- a value in the word of its option
@@ -63,26 +67,34 @@ firsts : (list : List spec.Spelled) → map (λ (p : List ℕ × List ℕ). p.0)
 firsts [] = refl
 firsts (s ∷ list) = ap (λ l. s.text ∷ l) (firsts list)
 
-pub offered : (d : Declaration) (words : List (List ℕ)) (typed : List ℕ) (list : List (List ℕ × List ℕ)) → is_sound d.options ≡ true → are_listable d.positionals ≡ true → AreNamed d.options → IsUtf8 typed → CanCome d words true → AreText d.options
-    → list ≡ spec.offered typed (spellings d.options) → AreOffered d words typed list
-offered d words typed list sound good named utf8 opens text is =
-    let words_are : map (λ p. p.0) list ≡ texts (filter (is_offered typed) (spellings d.options)) = ap (map (λ (p : List ℕ × List ℕ). p.0)) is ∙ firsts (filter (is_offered typed) (spellings d.options)) in
+pub offered : (d : Declaration) (words : List (List ℕ)) (front : Front) (typed : List ℕ) (list : List (List ℕ × List ℕ)) → is_sound d.options ≡ true → are_listable d.positionals ≡ true → AreNamed d.options → IsUtf8 typed → IsFront d words front → CanCome d words true → AreText d.options
+    → list ≡ spec.offered typed (spellings_if (is_free d.options front.seen.items) d.options) → AreOffered d words typed list
+offered d words front typed list sound good named utf8 is_front opens text is =
+    let seen = front.seen.items in
+    let words_are : map (λ p. p.0) list ≡ texts (filter (is_offered typed) (spellings_if (is_free d.options seen) d.options)) =
+    ap (map (λ (p : List ℕ × List ℕ). p.0)) is ∙ firsts (filter (is_offered typed) (spellings_if (is_free d.options seen) d.options)) in
     let there = opens.0 refl in
+    let same = means_read d words is_front.l (state_view front.state) is_front.leaves in
     record {
-      sound = λ s has. offered_completes d words there.0 typed s sound text named there.1 there.2 (filled d.positionals (positional_words there.0) good there.3) utf8 (subst (λ x. Contains x s) words_are has);
-      complete = λ s completes. subst (λ x. Contains x s) (sym words_are) (completes_offered d words typed s completes);
-      in_order = inl is;
+      sound = λ s has. offered_completes d words there.0 typed s (is_free d.options seen) sound text named there.1 there.2 (filled d.positionals (positional_words there.0) good there.3)
+          (λ i free k before. free_apart d.options is_front.l seen is_front.are_seen i free k (ap (legal.occurs k) (sym (same there.0 there.1.front)) ∙ before)) utf8 (subst (λ x. Contains x s) words_are has);
+      complete = λ s completes. subst (λ x. Contains x s) (sym words_are)
+          (completes_offered d words typed s (is_free d.options seen) completes
+          (apart_free d.options is_front.l seen is_front.are_seen completes.possible.index (λ k before. completes.apart k (ap (legal.occurs k) (same completes.possible.before completes.possible.words_say) ∙ before))));
+      in_order = inl (seen, is);
     }
 
--- the same for the spellings that a call returns, if this holds of the words
-pub offered_all : (d : Declaration) (typed : List ℕ) (r : Result (Vec Spelling Global) AllocError) (options : List Declared) (bytes : List ℕ) (P : List (List ℕ) → Type 0) → is_sound d.options ≡ true → are_listable d.positionals ≡ true → AreNamed d.options → IsUtf8 typed
-    → ((words : List (List ℕ)) → P words → CanCome d words true)
-    → options ≡ d.options → bytes ≡ typed → AreText options → IfOk r (λ list. map spelling_view list.items ≡ spec.offered bytes (spellings options))
-    → IfOk r (λ list. (words : List (List ℕ)) → P words → AreOffered d words typed (map spelling_view list.items))
-offered_all d typed (Ok list) options bytes P sound good named utf8 can are also text is = λ words so.
-    offered d words typed (map spelling_view list.items) sound good named utf8 (can words so) (subst AreText are text)
-    (is ∙ ap (λ b. spec.offered b (spellings options)) also ∙ ap (λ os. spec.offered typed (spellings os)) are)
-offered_all d typed (Err e) options bytes P sound good named utf8 can are also text is = tt
+-- the same for the spellings that a call returns, by what the words mean
+pub offered_all : (d : Declaration) (typed : List ℕ) (r : Result (Vec Spelling Global) AllocError) (options : List Declared) (front : Option Front) (indices bytes : List ℕ) → is_sound d.options ≡ true → are_listable d.positionals ≡ true → AreNamed d.options → IsUtf8 typed
+    → ((words : List (List ℕ)) → IsFrontOf d words front → CanCome d words true) → indices ≡ seen_of front
+    → options ≡ d.options → bytes ≡ typed → AreText options → IfOk r (λ list. map spelling_view list.items ≡ spec.offered bytes (spellings_if (is_free options indices) options))
+    → IfOk r (λ list. (words : List (List ℕ)) → IsFrontOf d words front → AreOffered d words typed (map spelling_view list.items))
+offered_all d typed (Ok list) options None indices bytes sound good named utf8 can of are also text is = λ words so. absurd (false≢true ((nowhere_comes d words so).1 ((can words so).0 refl)))
+offered_all d typed (Ok list) options (Some front) indices bytes sound good named utf8 can of are also text is = λ words so.
+    offered d words front typed (map spelling_view list.items) sound good named utf8 so (can words so) (subst AreText are text)
+    (is ∙ ap (λ b. spec.offered b (spellings_if (is_free options indices) options)) also ∙ ap (λ os. spec.offered typed (spellings_if (is_free os indices) os)) are
+    ∙ ap (λ ks. spec.offered typed (spellings_if (is_free d.options ks) d.options)) of)
+offered_all d typed (Err e) options front indices bytes sound good named utf8 can of are also text is = tt
 
 -- no spelling is offered where no option can come
 pub none_stands : (d : Declaration) (words : List (List ℕ)) (typed : List ℕ) → CanCome d words false → AreOffered d words typed []

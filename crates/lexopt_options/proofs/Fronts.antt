@@ -22,6 +22,7 @@ use Rattle.lexopt_options_spec.specs.States as spec
 use Rattle.lexopt_options_spec.proofs.Growing.{Grows, grows_flag, grows_one, grows_optional, grows_positional, grows_several, values_lack}
 use Rattle.lexopt_options_spec.proofs.Reached.{Reached, closed_reached, end_leaves, first_due, nothing_reached, open_reached, value_due}
 use Rattle.lexopt_options_spec.proofs.States.{front_says, says_front, never_open, nowhere_open, open_there, role_there, says_once}
+use Rattle.lexopt_options.specs.Reading.{AreSeen, is_noted_at, noted}
 use Rattle.lexopt_options.specs.States.{IsFront, IsAfterName, IsLast, can_go_on, first_of, index_if, state_view, with_index}
 use Rattle.lexopt_options.specs.declared.front.AfterName.{AfterName}
 use Rattle.lexopt_options.specs.declared.front.AfterName.TheVariants as after
@@ -29,7 +30,7 @@ use Rattle.lexopt_options.specs.declared.front.State.TheVariants as state
 use Rattle.lexopt_options.proofs.Accepted.{at_place, first_refused, first_there, none_cond, view_there}
 use Rattle.lexopt_options.proofs.Keys.{found_within}
 use Rattle.lexopt_options.proofs.NoValue.{unexpected_never}
-use Rattle.lexopt_options.proofs.ReadKeys.{before_separator, option_with}
+use Rattle.lexopt_options.proofs.ReadKeys.{before_separator, option_with, seen_more, seen_same}
 use Rattle.lexopt_options.proofs.ReadNext.{kind_of_index, more_within, no_count, option_item, option_parsed}
 
 -- ---- what was read last
@@ -46,32 +47,35 @@ read_last l index s (Some v) is has = (l, s, refl, is, has)
 -- ---- the loop
 
 -- The line s is read up to the line u: these positionals, and options, which all accept their values
--- if `accepted` is true; what was read last; and the option of several values that goes on.
-pub record HasReached (d : Declaration) (s u : UnreadLine) (words : List (List ℕ)) (accepted : Bool) (last : Option (ℕ × List ℕ)) (going : Option ℕ) : Type 0 where
+-- if `accepted` is true, and those that are noted; what was read last; and the option of several
+-- values that goes on.
+pub record HasReached (d : Declaration) (s u : UnreadLine) (words : List (List ℕ)) (accepted : Bool) (last : Option (ℕ × List ℕ)) (going : Option ℕ) (seen : List ℕ) : Type 0 where
   pub l : List Parsed
   pub at : Reached d s l going u
   pub words_are : positional_words l ≡ words
   pub accepted_is : are_accepted d.options l ≡ accepted
+  pub are_seen : AreSeen d.options l seen
   pub last_is : IsReadLast l last
 
-pub counted : {d : Declaration} {s u : UnreadLine} {words : List (List ℕ)} {accepted : Bool} {last : Option (ℕ × List ℕ)} {going : Option ℕ} (has : HasReached d s u words accepted last going) → positional_count has.l ≡ length words
+pub counted : {d : Declaration} {s u : UnreadLine} {words : List (List ℕ)} {accepted : Bool} {last : Option (ℕ × List ℕ)} {going : Option ℕ} {seen : List ℕ} (has : HasReached d s u words accepted last going seen) → positional_count has.l ≡ length words
 counted has = sym (words_count has.l) ∙ ap length has.words_are
 
-pub has_nothing : (d : Declaration) (s : UnreadLine) (words : List (List ℕ)) → IsLine s → words ≡ [] → HasReached d s s words true None None
-has_nothing d s words line none = record {
+pub has_nothing : (d : Declaration) (s : UnreadLine) (words : List (List ℕ)) (seen : List ℕ) → IsLine s → words ≡ [] → seen ≡ [] → HasReached d s s words true None None seen
+has_nothing d s words seen line none none_seen = record {
   l = [];
   at = nothing_reached d s line;
   words_are = sym none;
   accepted_is = refl;
+  are_seen = subst (AreSeen d.options []) (sym none_seen) (λ i needed. refl);
   last_is = λ others last are. absurd (not_empty others [] last (sym are));
 }
 
 accepted_more : (options : List _) (l : List Parsed) (s : Parsed) → are_accepted options (l ++ s ∷ []) ≡ (are_accepted options l && is_none (refused_value options s))
 accepted_more options l s = list_all-append (λ x. is_none (refused_value options x)) l (s ∷ []) ∙ ap (λ b. are_accepted options l && b) (and-true (is_none (refused_value options s)))
 
-pub has_positional : (d : Declaration) (s u v : UnreadLine) (words more : List (List ℕ)) (word : List ℕ) (accepted : Bool) (last : Option (ℕ × List ℕ)) (going limit : Option ℕ) → HasReached d s u words accepted last going
-    → Next u (steps.positional word) v → limit ≡ most d.positionals → limit ≢ Some (length words) → more ≡ words ++ word ∷ [] → HasReached d s v more accepted None None
-has_positional d s u v words more word accepted last going limit has next limit_is room more_is =
+pub has_positional : (d : Declaration) (s u v : UnreadLine) (words more : List (List ℕ)) (word : List ℕ) (accepted : Bool) (last : Option (ℕ × List ℕ)) (going limit : Option ℕ) {seen : List ℕ} → HasReached d s u words accepted last going seen
+    → Next u (steps.positional word) v → limit ≡ most d.positionals → limit ≢ Some (length words) → more ≡ words ++ word ∷ [] → HasReached d s v more accepted None None seen
+has_positional d s u v words more word accepted last going limit {seen} has next limit_is room more_is =
     let own = legal.positional word in
     let count : positional_count (has.l ++ own ∷ []) ≡ positional_count has.l + 1 = count_append has.l (own ∷ []) in
     record {
@@ -81,6 +85,7 @@ has_positional d s u v words more word accepted last going limit has next limit_
           (more_within (positional_count has.l) (most d.positionals) (λ full. room (limit_is ∙ full ∙ ap (λ n. Some n) (counted has))) has.at.upto.within));
       words_are = words_append has.l (own ∷ []) ∙ ap (λ ws. ws ++ word ∷ []) has.words_are ∙ sym more_is;
       accepted_is = accepted_more d.options has.l own ∙ and-true (are_accepted d.options has.l) ∙ has.accepted_is;
+      are_seen = seen_same d.options has.l seen word has.are_seen;
       last_is = λ others other are. ap value_of (sym (same_last has.l others own other are).1);
     }
 
@@ -182,15 +187,16 @@ fits table.several v w (at_most_one value) reads = reads
 fits k v w values reads = tt
 
 -- one more option
-pub has_option : (d : Declaration) (s u v w : UnreadLine) (words : List (List ℕ)) (accepted own : Bool) (last : Option (ℕ × List ℕ)) (going : Option ℕ) (value : Option (List ℕ)) (goes_on : Bool) (name : Name) (index : ℕ)
-    → is_sound d.options ≡ true → HasReached d s u words accepted last going → Next u (option_reply name) v → index_of d.options name ≡ Some index → IsAfterName d index v (after.Values own value goes_on) w
-    → HasReached d s w words (accepted && own) (with_index index value) (index_if goes_on index) × (bound w < bound u) × (w.ended ≡ false)
-has_option d s u v w words accepted own last going value goes_on name index sound has next found (k, values, k_is, reads, own_is, value_is, goes_is) = (
+pub has_option : (d : Declaration) (s u v w : UnreadLine) (words : List (List ℕ)) (accepted own : Bool) (last : Option (ℕ × List ℕ)) (going : Option ℕ) (value : Option (List ℕ)) (goes_on : Bool) (name : Name) (index : ℕ) (seen more : List ℕ)
+    → is_sound d.options ≡ true → HasReached d s u words accepted last going seen → more ≡ noted (is_noted_at d.options index) index seen → Next u (option_reply name) v → index_of d.options name ≡ Some index → IsAfterName d index v (after.Values own value goes_on) w
+    → HasReached d s w words (accepted && own) (with_index index value) (index_if goes_on index) more × (bound w < bound u) × (w.ended ≡ false)
+has_option d s u v w words accepted own last going value goes_on name index seen more sound has more_is next found (k, values, k_is, reads, own_is, value_is, goes_is) = (
   record {
     l = has.l ++ parsed ∷ [];
     at = reached_by d s u w has.l going name index k values (pending v) goes_on has.at found (grows (declared.table d.options) u v w name k values has.at.upto.line kind_so next reads) line within (fits k v w values reads) goes_is;
     words_are = words_append has.l (parsed ∷ []) ∙ ap (λ ws. positional_words has.l ++ ws) (no_words index values) ∙ append-nil (positional_words has.l) ∙ has.words_are;
     accepted_is = accepted_more d.options has.l parsed ∙ ap (λ b. b && is_none (refused_value d.options parsed)) has.accepted_is ∙ ap (λ b. accepted && b) own_is;
+    are_seen = subst (AreSeen d.options (has.l ++ parsed ∷ [])) (sym more_is) (seen_more d.options has.l seen index parsed (option_with index values) has.are_seen);
     last_is = read_last has.l index parsed value (option_with index values) value_is;
   },
   read.shorter,
@@ -225,7 +231,7 @@ option_there options os o name index same found is = view_there options index o 
 -- ---- where the reading ends
 
 -- what words mean is what was read of them
-means_read : (d : Declaration) (words : List (List ℕ)) (l : List Parsed) (state : spec.State) → Leaves d words l state → (m : List Parsed) → MeansFront d words m → m ≡ l
+pub means_read : (d : Declaration) (words : List (List ℕ)) (l : List Parsed) (state : spec.State) → Leaves d words l state → (m : List Parsed) → MeansFront d words m → m ≡ l
 means_read d words l spec.anything (leaves_anything says more) m means = says_once d words m l (front_says d words m means) says.says
 means_read d words l (spec.due i) (leaves_due j none more) m means = absurd (none m means)
 means_read d words l (spec.first i) (leaves_first j none more nor) m means = absurd (none m means)
@@ -234,7 +240,7 @@ means_read d words l spec.ended (leaves_ended says more) m means = says_once d w
 
 -- at the end of the words
 pub front_at_end : (d : Declaration) (u v : UnreadLine) (words : List (List ℕ)) (front : Front) (going : Option ℕ) → is_sound d.options ≡ true
-    → HasReached d (start d.short_equals words) u front.words.items front.accepted front.last going → Next u steps.end v → state_view front.state ≡ state_at_end going v.ended → IsFront d words front
+    → HasReached d (start d.short_equals words) u front.words.items front.accepted front.last going front.seen.items → Next u steps.end v → state_view front.state ≡ state_at_end going v.ended → IsFront d words front
 front_at_end d u v words front going sound has next state_is =
     let leaves = subst (Leaves d words has.l) (sym state_is) (end_leaves d words has.l going u v sound has.at next) in
     record {
@@ -243,6 +249,7 @@ front_at_end d u v words front going sound has next state_is =
       within = has.at.upto.within;
       words_are = has.words_are;
       accepted_is = has.accepted_is;
+      are_seen = has.are_seen;
       last_is = last_so front.last has.l has.last_is (means_read d words has.l (state_view front.state) leaves) (front_here has.l (end_leaves d words has.l going u v sound has.at next) has.at.upto.within);
     }
   where
@@ -259,29 +266,30 @@ front_at_end d u v words front going sound has next state_is =
     last_so (Some found) l read means front_is = (read.0, read.1, subst (MeansFront d words) read.2 front_is, read.3, read.4)
 
 lacking : (d : Declaration) (words : List (List ℕ)) (front : Front) (l : List Parsed) (state : spec.State) → state_view front.state ≡ state → front.last ≡ None → Leaves d words l state → ((m : List Parsed) → MeansFront d words m → ⊥)
-    → IsWithin (positional_count l) (most d.positionals) → positional_words l ≡ front.words.items → are_accepted d.options l ≡ front.accepted → IsFront d words front
-lacking d words front l state state_is no_last leaves none within words_are accepted_is = record {
+    → IsWithin (positional_count l) (most d.positionals) → positional_words l ≡ front.words.items → are_accepted d.options l ≡ front.accepted → AreSeen d.options l front.seen.items → IsFront d words front
+lacking d words front l state state_is no_last leaves none within words_are accepted_is are_seen = record {
   l = l;
   leaves = subst (Leaves d words l) (sym state_is) leaves;
   within = within;
   words_are = words_are;
   accepted_is = accepted_is;
+  are_seen = are_seen;
   last_is = subst (IsLast d words) (sym no_last) (λ others last means. absurd (none (others ++ last ∷ []) means));
 }
 
 -- where an option lacks a value at the end of the words
 pub front_lacking : (d : Declaration) (u v w : UnreadLine) (words : List (List ℕ)) (front : Front) (last : Option (ℕ × List ℕ)) (going : Option ℕ) (name : Name) (index : ℕ) → is_sound d.options ≡ true
-    → HasReached d (start d.short_equals words) u front.words.items front.accepted last going → front.last ≡ None → Next u (option_reply name) v → index_of d.options name ≡ Some index → (state_is : State) → front.state ≡ state_is
+    → HasReached d (start d.short_equals words) u front.words.items front.accepted last going front.seen.items → front.last ≡ None → Next u (option_reply name) v → index_of d.options name ≡ Some index → (state_is : State) → front.state ≡ state_is
     → IsAfterName d index v (after.Lacks state_is) w → IsFront d words front
 front_lacking d u v w words front last going name index sound has no_last next found (state.Due i) state_is (same, k, none, empty) =
     let leaves = subst (λ (j : ℕ). Leaves d words has.l (spec.due j)) (sym same) (value_due d words has.l going u v name index sound has.at next found (sym (kind_of_index d.options name index sound found) ∙ k) none empty) in
-    lacking d words front has.l (spec.due i) (ap state_view state_is) no_last leaves (λ m. no_front_due leaves m) has.at.upto.within has.words_are has.accepted_is
+    lacking d words front has.l (spec.due i) (ap state_view state_is) no_last leaves (λ m. no_front_due leaves m) has.at.upto.within has.words_are has.accepted_is has.are_seen
   where
     no_front_due : {l : List Parsed} → Leaves d words l (spec.due i) → (m : List Parsed) → MeansFront d words m → ⊥
     no_front_due (leaves_due j none more) m means = none m means
 front_lacking d u v w words front last going name index sound has no_last next found (state.First i) state_is (same, k, none, empty) =
     let leaves = subst (λ (j : ℕ). Leaves d words has.l (spec.first j)) (sym same) (first_due d words has.l going u v name index sound has.at next found (sym (kind_of_index d.options name index sound found) ∙ k) none empty) in
-    lacking d words front has.l (spec.first i) (ap state_view state_is) no_last leaves (λ m. no_front_first leaves m) has.at.upto.within has.words_are has.accepted_is
+    lacking d words front has.l (spec.first i) (ap state_view state_is) no_last leaves (λ m. no_front_first leaves m) has.at.upto.within has.words_are has.accepted_is has.are_seen
   where
     no_front_first : {l : List Parsed} → Leaves d words l (spec.first i) → (m : List Parsed) → MeansFront d words m → ⊥
     no_front_first (leaves_first j none more nor) m means = none m means

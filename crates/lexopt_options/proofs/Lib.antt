@@ -9,8 +9,8 @@ pub mod Owners
 pub mod TakenWords
 pub mod Fronts
 pub mod Beginnings
-pub mod Completing
 pub mod Seen
+pub mod Completing
 pub mod Accepted
 pub mod Given
 pub mod KeysGiven

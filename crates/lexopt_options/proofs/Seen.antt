@@ -3,13 +3,15 @@ use Rattle.std.proofs.Common.{◌≡◌, ◌<◌, ◌==◌, ◌&&◌, ◌∙◌,
 use Rattle.std.specs.Borrow.{Bor}
 use Rattle.std.specs.List.{list_any}
 use Rattle.std.specs.Option.{MatchOption, is_some, option_map}
-use Rattle.std.proofs.lemmas.Bool.{false≢true, or_parts, or_right}
+use Rattle.std.proofs.lemmas.Bool.{eq-eqb, eqb-true, false≢true, not-true, or_left, or_parts, or_right}
 use Rattle.std.proofs.lemmas.List.{length-map}
 use Rattle.lexopt_options_spec.specs.Declaration as spec
 use Rattle.lexopt_options_spec.specs.Declaration.{has}
 use Rattle.lexopt_options_spec.specs.Legal.{AreApart, Parsed, are_same, clash, exclude, exclusive_at, is_required, occurs}
 use Rattle.lexopt_options_spec.specs.Stops.{IsFirstClash}
-use Rattle.lexopt_options_spec.proofs.Apart.{none_past as none_declared, same_clash}
+use Rattle.lexopt_options_spec.proofs.Apart.{none_past as none_declared, same_clash, texts_there}
+use Rattle.lexopt_options_spec.proofs.Sound.{either}
+use Rattle.lexopt_options_spec.specs.Completion.{is_free}
 use Rattle.lexopt_declaration.specs.Lookups.{names_at}
 use Rattle.lexopt_declaration.specs.Models.{long_name, option_view, short_name}
 use Rattle.lexopt_declaration.specs.declared.declaration.Declared.{Declared}
@@ -137,3 +139,37 @@ exclusive_so o os seen (Some both) is (index, other, clashes, at, other_at) = (
   subst (λ qs. AreNames (map option_view qs) index both.0) is (are_names os index both.0 at),
   subst (λ qs. AreNames (map option_view qs) other both.1) is (are_names os other both.1 other_at),
 )
+
+-- ---- options that no option before excludes
+
+has_any : (p : ℕ → Bool) (k : ℕ) (l : List ℕ) → has k l ≡ true → p k ≡ true → list_any p l ≡ true
+has_any p k [] there is = absurd (false≢true there)
+has_any p k (x ∷ l) there is = either (x == k) (has k l) (list_any p (x ∷ l) ≡ true) there
+    (λ same. or_left (p x) (list_any p l) (ap p (eqb-true x k same) ∙ is))
+    (λ later. or_right (p x) (list_any p l) (has_any p k l later is))
+
+any_has : (p : ℕ → Bool) (l : List ℕ) → list_any p l ≡ true → (k : ℕ) × (has k l ≡ true) × (p k ≡ true)
+any_has p [] is = absurd (false≢true is)
+any_has p (x ∷ l) is = either (p x) (list_any p l) ((k : ℕ) × (has k (x ∷ l) ≡ true) × (p k ≡ true)) is
+    (λ one. (x, or_left (x == x) (has x l) (eq-eqb x x refl), one))
+    (λ later. let r = any_has p l later in (r.0, or_right (x == r.0) (has r.0 l) r.1, r.2))
+
+-- no option that was read excludes one that is free of those that are noted
+pub free_apart : (options : List spec.Declared) (l : List Parsed) (seen : List ℕ) → AreSeen options l seen → (i : ℕ) → is_free options seen i ≡ true → (k : ℕ) → occurs k l ≡ true → exclude options k i ≡ false
+free_apart options l seen are i free k there = by (exclude options k i) refl
+  where
+    by : (b : Bool) → exclude options k i ≡ b → exclude options k i ≡ false
+    by false is = is
+    by true is =
+        let seen_so = are k (exclusive_noted options k (texts_there options k i is).0) ∙ there in
+        absurd (false≢true (sym (not-true _ free) ∙ has_any (λ j. exclude options j i) k seen seen_so is))
+
+-- and one that none excludes is free
+pub apart_free : (options : List spec.Declared) (l : List Parsed) (seen : List ℕ) → AreSeen options l seen → (i : ℕ) → ((k : ℕ) → occurs k l ≡ true → exclude options k i ≡ false) → is_free options seen i ≡ true
+apart_free options l seen are i apart = by (list_any (λ k. exclude options k i) seen) refl
+  where
+    by : (b : Bool) → list_any (λ k. exclude options k i) seen ≡ b → is_free options seen i ≡ true
+    by false is = ap not is
+    by true is =
+        let r = any_has (λ k. exclude options k i) seen is in
+        let there = sym (are r.0 (exclusive_noted options r.0 (texts_there options r.0 i r.2).0)) ∙ r.1 in absurd (false≢true (sym (apart r.0 there) ∙ r.2))

@@ -5,7 +5,8 @@ use Rattle.std.specs.List.{Contains, flat_map, starts_with}
 use Rattle.lexopt_options_spec.specs.Declaration.{Declaration, Positional}
 use Rattle.lexopt_options_spec.specs.Completion as spec
 use Rattle.lexopt_options_spec.specs.Completion.{AreOwnersIn, Completes, HasRole, IsJoined, IsOpen}
-use Rattle.lexopt_options_spec.specs.Completion.{list_of, offered_values, spellings, words_at}
+use Rattle.lexopt_options_spec.specs.Completion.{is_free, list_of, offered_values}
+use Rattle.lexopt_options_spec.specs.Completion.{spellings_if, words_at}
 use Rattle.lexopt_options_spec.specs.Legal as legal
 use Rattle.lexopt_options_spec.specs.Legal.{are_accepted, positional_words}
 use Rattle.lexopt_options_spec.specs.Completion.{CanBeTaken}
@@ -19,12 +20,15 @@ use Rattle.lexopt_options.specs.Declarations.{declaration_of, options_of}
 use Rattle.lexopt_options.specs.Roles.{IsJoinedAt, IsRoleAt}
 
 -- exactly the spellings that can come where this was typed after these words, each with the help
--- text of its option, in the order of the declaration
+-- text of its option, in the order of the declaration: none, or all that begin so of the options
+-- that no option at one of some indices excludes
 pub record AreOffered (d : Declaration) (words : List (List ℕ)) (typed : List ℕ)
     (offered : List (List ℕ × List ℕ)) : Type 0 where
   pub sound : (s : List ℕ) → Contains (map (λ p. p.0) offered) s → Completes d words typed s
   pub complete : (s : List ℕ) → Completes d words typed s → Contains (map (λ p. p.0) offered) s
-  pub in_order : (offered ≡ spec.offered typed (spellings d.options)) ⊎ (offered ≡ [])
+  pub in_order : ((indices : List ℕ)
+      × (offered ≡ spec.offered typed (spellings_if (is_free d.options indices) d.options)))
+      ⊎ (offered ≡ [])
 
 -- exactly what can come where this was typed after these words
 pub record IsCompletion {F V P M S : Type 0} (o : Options F V P M S) (words : List (List ℕ))

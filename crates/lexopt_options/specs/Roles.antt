@@ -47,6 +47,11 @@ abbrev pub words_of : Option Front → List (List ℕ)
 words_of None = []
 words_of (Some front) = front.words.items
 
+-- the indices that are noted of their options; none if they mean nothing
+abbrev pub seen_of : Option Front → List ℕ
+seen_of None = []
+seen_of (Some front) = front.seen.items
+
 -- if it is a value, its index is that of one of `count` options
 abbrev pub IsDeclared : ℕ → spec.Role → Type 0
 IsDeclared count (spec.value i) = i < count

@@ -18,7 +18,7 @@ use Rattle.lexopt_options.specs.declared.front.AfterName.TheVariants as after
 use Rattle.lexopt_options.specs.declared.front.State.{State}
 use Rattle.lexopt_options.specs.declared.front.State.TheVariants as state
 use Rattle.lexopt_options.specs.Kinds.{kind_at}
-use Rattle.lexopt_options.specs.Reading.{parsed_with}
+use Rattle.lexopt_options.specs.Reading.{AreSeen, parsed_with}
 
 abbrev pub state_view : State → spec.State
 state_view state.Anything = spec.anything
@@ -75,6 +75,7 @@ pub record IsFront (d : Declaration) (words : List (List ℕ)) (front : Front) :
   pub within : IsWithin (positional_count l) (most d.positionals)
   pub words_are : positional_words l ≡ front.words.items
   pub accepted_is : are_accepted d.options l ≡ front.accepted
+  pub are_seen : AreSeen d.options l front.seen.items
   pub last_is : IsLast d words front.last
 
 -- the same; `None` if they mean nothing, and nothing with any one word after them

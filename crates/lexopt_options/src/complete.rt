@@ -14,7 +14,8 @@ ghost use Rattle.lexopt_declaration.specs.Models.{positional_view};
 ghost use Rattle.lexopt_options.specs.Completions.{CanCome, Opens, joined_values, values_so};
 ghost use Rattle.lexopt_options.specs.Completions.{word_values, words_so};
 ghost use Rattle.lexopt_options.specs.Declarations.{declaration_of};
-ghost use Rattle.lexopt_options.specs.Roles.{IsDeclared, IsRole, joined_view, place_view, words_of};
+ghost use Rattle.lexopt_options.specs.Roles.{IsDeclared, IsRole, joined_view, place_view, seen_of};
+ghost use Rattle.lexopt_options.specs.Roles.{words_of};
 ghost use Rattle.lexopt_options.specs.States.{IsFrontOf, IsLast, state_view};
 
 use crate::front::{Front, State};
@@ -64,8 +65,9 @@ pub struct Joined<'a, F, V = Infallible, M = Infallible, S = Infallible> {
 #[derive(Debug, Drop)]
 pub struct Completion<'a, F, V = Infallible, M = Infallible, S = Infallible> {
     /// The spellings of declared options that can come there and begin with what was typed, in the
-    /// order of the declaration. Those of hidden options and of aliases are here only if they were
-    /// typed whole. There are none if what was typed is not UTF-8.
+    /// order of the declaration. Those of options that an option before them excludes are not here,
+    /// those of hidden options and of aliases only if they were typed whole. There are none if what
+    /// was typed is not UTF-8.
     pub spellings: Vec<Spelling<'a>>,
     /// The words in lists that can come there and begin with what was typed, in the order of the
     /// lists. First come the values of the option of which a word would be a value there; then the
@@ -180,6 +182,16 @@ fn words_of(front: &Option<Front>) -> &[OsString]
 {
     match front {
         Some(front) => &front.words,
+        None => &[],
+    }
+}
+
+// The indices that are noted of the options of words that mean this; none if they mean nothing.
+fn seen_of(front: &Option<Front>) -> &[usize]
+    ensures { result.now ≡ seen_of front.now }
+{
+    match front {
+        Some(front) => &front.seen,
         None => &[],
     }
 }
@@ -377,8 +389,8 @@ impl<'a, F, V, P, M, S> Options<'a, F, V, P, M, S> {
     ghost use Rattle.lexopt_options.specs.Roles.{words_of};
     ghost use Rattle.lexopt_options.specs.States.{IsFrontOf};
 
-    // The spellings that begin with what was typed; none if no option can come after words that
-    // mean this.
+    // The spellings that begin with what was typed, without those of options that are excluded by
+    // one before; none if no option can come after words that mean this.
     fn spellings_for(
         &self,
         alloc: Global,
@@ -397,7 +409,7 @@ impl<'a, F, V, P, M, S> Options<'a, F, V, P, M, S> {
             return Ok(Vec::new(alloc));
         }
         match typed.to_str() {
-            Some(_) => spellings_of(alloc, self.options(), typed.as_bytes()),
+            Some(_) => spellings_of(alloc, self.options(), seen_of(front), typed.as_bytes()),
             None => Ok(Vec::new(alloc)),
         }
     }
@@ -522,11 +534,12 @@ impl<'a, F, V, P, M, S> Options<'a, F, V, P, M, S> {
         typed: &OsString,
     ) -> Result<Completion<'a, F, V, M, S>, AllocError>
         // This is exactly what can come there: the spellings of declared options that begin with
-        // what was typed, and after which some words make a legal line where that option occurs,
-        // whether or not options of it exclude each other, if they are own names of options that are
-        // not hidden or were typed whole; what each longer word is that begins so and is not an
-        // option, and to which positionals it can belong; the option whose value is typed in the
-        // word; and the values in the lists of these that begin with what was typed.
+        // what was typed, and after which some words make a line where that option occurs that is
+        // legal but for options that exclude each other, if no option before excludes that option,
+        // and if they are own names of options that are not hidden or were typed whole; what each
+        // longer word is that begins so and is not an option, and to which positionals it can
+        // belong; the option whose value is typed in the word; and the values in the lists of these
+        // that begin with what was typed.
         ensures { IfOk result (λ completion.
             IsCompletion self.now words.items typed.now completion) }
     {

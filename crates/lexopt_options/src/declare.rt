@@ -48,7 +48,8 @@ pub const NO_ALIASES: &[Names<'static>] = &[];
 /// - `.default("4")` gives an option of one value, which is not required, the value that it has where
 ///   a line does not have it.
 /// - `.exclusive("format")` puts it into the exclusive group of this name: a line has at most one of
-///   the options of a group. It cannot be required.
+///   the options of a group, and after one of them shells do not offer the others. It cannot be
+///   required.
 /// - `.alias(Names::Long("colour"))` gives it further names, which lines may have like its own. The
 ///   help, messages and hints show its own names only, and shells offer these only where they are
 ///   typed whole. Several of these may follow.

@@ -15,7 +15,7 @@ ghost use Rattle.lexopt_options.specs.States.{state_view, with_index};
 
 use crate::listed::{accepts, refused_place};
 use crate::options::Options;
-use crate::read::{Outcome, is_full, read_next};
+use crate::read::{Outcome, is_full, is_noted, note, read_next};
 use crate::rest::{RestStart, is_separated};
 use lexopt_base::parser::Parser;
 use lexopt_base::refusal::Refusal;
@@ -47,6 +47,8 @@ pub(crate) struct Front {
     pub(crate) words: Vec<OsString>,
     // Whether each option accepts its values.
     pub(crate) accepted: bool,
+    // The indices of the options that were read and are required, have a default or may be excluded.
+    pub(crate) seen: Vec<usize>,
     // If what is read last is an option that has a value: its index, and its first value.
     pub(crate) last: Option<(usize, OsString)>,
     // What the next word is.
@@ -238,17 +240,20 @@ pub(crate) fn read_front<F, V, P, M, S>(
     let declared = options.options();
     let mut words = Vec::new(alloc);
     let mut all_accepted = true;
+    let mut seen = Vec::new(alloc);
     let mut last = None;
     let mut going_on = None;
     loop {
         match read_next(parser, options)? {
             Outcome::Option(index) => {
-                match read_after_name(alloc, parser, &declared[index], index)? {
+                let option = &declared[index];
+                match read_after_name(alloc, parser, option, index)? {
                     AfterName::Values {
                         accepted,
                         first,
                         goes_on,
                     } => {
+                        note(is_noted(option), index, &mut seen)?;
                         all_accepted = are_both(all_accepted, accepted);
                         last = with_index(index, first);
                         going_on = index_if(goes_on, index);
@@ -257,6 +262,7 @@ pub(crate) fn read_front<F, V, P, M, S>(
                         let front = Front {
                             words,
                             accepted: all_accepted,
+                            seen,
                             last: None,
                             state,
                         };
@@ -280,6 +286,7 @@ pub(crate) fn read_front<F, V, P, M, S>(
                 let front = Front {
                     words,
                     accepted: all_accepted,
+                    seen,
                     last,
                     state: state_at_end(going_on, parser.is_past_separator()),
                 };

@@ -391,14 +391,14 @@ fn exclusive_options<'a, F, V, P, M, S>(
 }
 
 // Whether this option is required, has a default or may be excluded.
-fn is_noted<F, V, M, S>(option: &Declared<'_, F, V, M, S>) -> bool
+pub(crate) fn is_noted<F, V, M, S>(option: &Declared<'_, F, V, M, S>) -> bool
     ensures { result ≡ is_noted (option_view option.now) }
 {
     option.required || option.default.is_some() || option.exclusive.is_some()
 }
 
 // Adds the index of an option that was read to `seen`, if the end of the line hangs on it.
-fn note(counts: bool, index: usize, seen: &mut Vec<usize>) -> Result<(), AllocError>
+pub(crate) fn note(counts: bool, index: usize, seen: &mut Vec<usize>) -> Result<(), AllocError>
     ensures { OnOk result (seen.new.items ≡ noted counts index seen.old.items) }
 {
     if counts {

@@ -1,5 +1,5 @@
 -- Options that exclude each other.
-use Rattle.lexopt_options_spec.proofs.Common.{◌≡◌, ◌<◌, ◌==◌, ◌&&◌, ℕ, zero, suc, Bool, true, false, not, List, [], ◌∷◌, length, Option, Some, None, option_and_then, option_map, slice_get, unwrap_or, refl, sym, ap, ◌∙◌, arith, and_parts, false≢true, Declared, is_sound, clash}
+use Rattle.lexopt_options_spec.proofs.Common.{◌≡◌, ◌<◌, ◌==◌, ◌&&◌, ℕ, zero, suc, Bool, true, false, not, List, [], ◌∷◌, length, Option, Some, None, option_and_then, option_map, slice_get, unwrap_or, refl, sym, ap, ◌∙◌, arith, and_parts, false≢true, list_any, or_parts, Declared, is_sound, clash}
 use Rattle.std.specs.Option.{is_some}
 use Rattle.lexopt_options_spec.specs.Declaration.{bad_exclusive, exclusive_fault}
 use Rattle.lexopt_options_spec.specs.Legal.{are_same, exclude, exclusive_at, is_required}
@@ -11,7 +11,7 @@ both_some (Some text) None is = absurd (false≢true is)
 both_some None other is = absurd (false≢true is)
 
 -- options that exclude each other have a text
-texts_there : (options : List Declared) (i j : ℕ) → exclude options i j ≡ true → (is_some (exclusive_at options i) ≡ true) × (is_some (exclusive_at options j) ≡ true)
+pub texts_there : (options : List Declared) (i j : ℕ) → exclude options i j ≡ true → (is_some (exclusive_at options i) ≡ true) × (is_some (exclusive_at options j) ≡ true)
 texts_there options i j is = both_some (exclusive_at options i) (exclusive_at options j) (and_parts (not (j == i)) _ is).1
 
 -- only which options are there that others may exclude makes a difference
@@ -53,3 +53,16 @@ none_past options there i j within = by (clash options there i j) refl
     by true is =
         let texts = texts_there options i j (and_parts (exclude options i j) _ is).0 in
         within (text_within options i texts.0) (text_within options j texts.1)
+
+-- if no option has a text, none excludes another
+pub none_exclude : (options : List Declared) → list_any (λ o. is_some o.exclusive) options ≡ false → (i j : ℕ) → exclude options i j ≡ false
+none_exclude options none i j = by (exclude options i j) refl
+  where
+    no_text : (options : List Declared) (i : ℕ) → list_any (λ o. is_some o.exclusive) options ≡ false → is_some (exclusive_at options i) ≡ false
+    no_text [] i none = refl
+    no_text (o ∷ os) zero none = (or_parts (is_some o.exclusive) (list_any (λ p. is_some p.exclusive) os) none).0
+    no_text (o ∷ os) (suc i) none = no_text os i (or_parts (is_some o.exclusive) (list_any (λ p. is_some p.exclusive) os) none).1
+
+    by : (b : Bool) → exclude options i j ≡ b → exclude options i j ≡ false
+    by false is = is
+    by true is = absurd (false≢true (sym (no_text options i none) ∙ (texts_there options i j is).0))

@@ -6,7 +6,7 @@ use Rattle.std.specs.Prelude.{slice_get}
 use Rattle.std.proofs.lemmas.Bool.{true≢false, and_parts, or_parts, or_left, or_right, or_cases, false_from_ne_true, cond_both, ltb-true, eqb-true, eq-eqb, ne_eqb}
 use lib.Dec.{ltb}
 use lib.Utf8.{encode}
-use Rattle.lexopt_options_spec.specs.Declaration.{Declared, Reason, empty_name, equals_in_name, replacement_in_name, blank_or_control_in_name, all_names, or_else, has, has_name, is_blank_or_control, is_empty, is_one_of, name_fault, names_fault, shares_name, Beside, nothing, a_flag, negation, name_beside, is_plain_flag, label_fault, bad_label, fault, faults, is_sound, IsFirstFault}
+use Rattle.lexopt_options_spec.specs.Declaration.{Declared, Reason, empty_name, equals_in_name, replacement_in_name, blank_or_control_in_name, all_names, or_else, has, has_name, is_blank_or_control, is_empty, is_one_of, name_fault, names_fault, shares_name, Beside, nothing, name_beside, is_plain_flag, label_fault, bad_label, fault, faults, is_sound, IsFirstFault}
 use Rattle.lexopt_options_spec.specs.Declarable.{byte_fault, has_replacement, fault_beside, or_later, fault_from, first_fault}
 use Rattle.lexopt_options_spec.proofs.Tables.{name_refl}
 

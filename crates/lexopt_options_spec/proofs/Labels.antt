@@ -18,7 +18,7 @@ use Rattle.lexopt_options_spec.proofs.Sound.{names_fine}
 -- ---- what a sound declaration means for one option
 
 -- an option of a sound list, by its place
-at_place : (options : List Declared) (o : Declared) → is_sound options ≡ true → (there : Contains options o) → IsFaultless (take there.0 options) o
+pub at_place : (options : List Declared) (o : Declared) → is_sound options ≡ true → (there : Contains options o) → IsFaultless (take there.0 options) o
 at_place options o sound there = subst (λ x. IsFaultless (take there.0 options) x) there.2 (faultless_at options there.0 o sound there.1)
 
 name_good : (options : List Declared) (o : Declared) → is_sound options ≡ true → Contains options o → (name : Name) → has_name name o ≡ true → name_fault name ≡ None
@@ -99,7 +99,7 @@ flag_spelled t e (long name) text good is =
     (subst (λ k. Completes k (long name) nothing [] (option (long name) None) []) (sym is) (no_value refl refl refl))
 
 -- the flag that a label shows is among the options before
-flag_there : (before : List Declared) (b : Beside) (name : Name) → b ≢ besides.nothing → label_fault before b (Some name) ≡ None → have_flag before (Some name) ≡ true
+pub flag_there : (before : List Declared) (b : Beside) (name : Name) → b ≢ besides.nothing → label_fault before b (Some name) ≡ None → have_flag before (Some name) ≡ true
 flag_there before besides.nothing name some none = absurd (some refl)
 flag_there before b name some none = passes _ bad_label none
 

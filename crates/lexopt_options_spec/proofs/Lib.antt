@@ -21,6 +21,7 @@ pub mod Offered
 pub mod Tables
 pub mod Taken
 pub mod Labels
+pub mod Entries
 pub mod LabelTexts
 pub mod Wrapping
 pub mod OneHelp

@@ -246,7 +246,7 @@ goes_on d words l is = go (parts exact (table d.options) d.short_equals words is
 
 pub can_occur : (d : Declaration) (words : List (List ℕ)) (l : List Parsed) (name : Name) (i : ℕ) → is_sound d.options ≡ true → AreText d.options → AreNamed d.options → IsOpen d words l
     → are_accepted d.options l ≡ true → AreFilled d.positionals (positional_words l) → index_of d.options name ≡ Some i → IsText name
-    → (possible : CanOccur d words (spelling name)) × (AreApart d.options (λ k. occurs k l || (i == k)) → AreApart d.options (λ k. occurs k (possible.before ++ possible.parsed ∷ possible.later)))
+    → (possible : CanOccur d words (spelling name)) × (possible.before ≡ l) × (possible.index ≡ i) × (AreApart d.options (λ k. occurs k l || (i == k)) → AreApart d.options (λ k. occurs k (possible.before ++ possible.parsed ∷ possible.later)))
 can_occur d words l name i sound utf8 names is accepted filled found text =
     let t = table d.options in
     let k = kind t name in
@@ -289,6 +289,8 @@ can_occur d words l name i sound utf8 names is accepted filled found text =
           taken = subst (AreTaken d.positionals) (sym all_words) filled.taken;
         };
       },
+      refl,
+      refl,
       λ apart a b.
           same_clash d.options (λ m. occurs m (l ++ own ∷ end.parsed)) (λ m. occurs m l || (i == m)) (λ m some.
           list_any-append (legal.is_option m) l (own ∷ end.parsed)

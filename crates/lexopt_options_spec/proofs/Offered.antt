@@ -3,9 +3,11 @@ use Rattle.lexopt_options_spec.proofs.Common.{◌≡◌, ◌<◌, ◌==◌, ℕ,
 use Rattle.lexopt_options_spec.proofs.Common.{ap, subst, ◌∙◌, arith, inl, inr, ⊎_elim, Contains, list_any, starts_with, position_or_len, eq-eqb, false≢true, lt-ltb, or_left, or_right}
 use Rattle.lexopt_options_spec.proofs.Common.{Contains-append_left, Contains-append_right, Contains-append_cases, Name, Declaration, Declared, has_name, index_of, is_name, is_one_of, is_sound}
 use Rattle.lexopt_options_spec.proofs.Common.{names_of, Parsed, are_accepted, positional_words, pointwise, same_text, IsUtf8, list_any-append}
-use Rattle.lexopt_options_spec.specs.Completion.{AreText, CanOccur, Completes, IsOpen, Spelled, is_offered, spelled, spelled_by, spelling, spellings, texts}
-use Rattle.lexopt_options_spec.proofs.Sound.{found, either}
-use Rattle.lexopt_options_spec.proofs.Tables.{name_is, name_refl, pointwise_refl}
+use Rattle.lexopt_options_spec.proofs.Common.{◌++◌, get_or_from_slice_get, same_Some, slice_get, slice_get_within, unwrap_or, option_map}
+use Rattle.lexopt_options_spec.specs.Completion.{AreText, CanOccur, Completes, IsOpen, Spelled, is_offered, spelled, spelled_by, spelling, spellings, spellings_at, spellings_if, texts}
+use Rattle.lexopt_options_spec.specs.Legal.{exclude, occurs}
+use Rattle.lexopt_options_spec.proofs.Sound.{either, found, option_there}
+use Rattle.lexopt_options_spec.proofs.Tables.{index_there, name_is, name_refl, pointwise_refl}
 use Rattle.lexopt_options_spec.proofs.Occurs.{AreNamed, can_occur}
 use Rattle.lexopt_options_spec.proofs.Taken.{AreFilled}
 
@@ -38,12 +40,15 @@ one_has help shown (n ∷ ns) name is = either (is_name name n) (is_one_of ns na
 abbrev HasSpelling : List Spelled → Name → Type 0
 HasSpelling list name = (s : Spelled) × Contains list s × (s.text ≡ spelling name)
 
+own_spelling : (name : Name) (o : Declared) → has_name name o ≡ true → HasSpelling (spelled_by o) name
+own_spelling name o is = either (is_one_of (names_of o) name) (is_one_of o.aliases name) (HasSpelling (spelled_by o) name) (sym (list_any-append (is_name name) (names_of o) o.aliases) ∙ is)
+    (λ own. (of_name o.help (not o.hidden) name, Contains-append_left _ (spelled o.help false o.aliases) _ (one_has o.help (not o.hidden) (names_of o) name own), refl))
+    (λ further. (of_name o.help false name, Contains-append_right (spelled o.help (not o.hidden) (names_of o)) _ _ (one_has o.help false o.aliases name further), refl))
+
 is_among : (name : Name) (os : List Declared) → list_any (has_name name) os ≡ true → HasSpelling (spellings os) name
 is_among name [] is = absurd (false≢true is)
 is_among name (o ∷ os) is = either (has_name name o) (list_any (has_name name) os) (HasSpelling (spellings (o ∷ os)) name) is
-    (λ one. either (is_one_of (names_of o) name) (is_one_of o.aliases name) (HasSpelling (spellings (o ∷ os)) name) (sym (list_any-append (is_name name) (names_of o) o.aliases) ∙ one)
-    (λ own. (of_name o.help (not o.hidden) name, Contains-append_left (spelled_by o) (spellings os) _ (Contains-append_left _ (spelled o.help false o.aliases) _ (one_has o.help (not o.hidden) (names_of o) name own)), refl))
-    (λ further. (of_name o.help false name, Contains-append_left (spelled_by o) (spellings os) _ (Contains-append_right (spelled o.help (not o.hidden) (names_of o)) _ _ (one_has o.help false o.aliases name further)), refl)))
+    (λ one. let m = own_spelling name o one in (m.0, Contains-append_left (spelled_by o) (spellings os) _ m.1, m.2))
     (λ other. let m = is_among name os other in (m.0, Contains-append_right (spelled_by o) (spellings os) _ m.1, m.2))
 
 one_named : (help : List ℕ) (shown : Bool) (names : List Name) (s : Spelled) → Contains (spelled help shown names) s → (name : Name) × (s.text ≡ spelling name) × (is_one_of names name ≡ true)
@@ -53,15 +58,43 @@ one_named help shown (n ∷ ns) s has = ⊎_elim
     (λ other. let m = one_named help shown ns s other in (m.0, m.1, or_right (is_name m.0 n) _ m.2))
     (cons_cases (of_name help shown n) (spelled help shown ns) s has)
 
+named_by : (o : Declared) (s : Spelled) → Contains (spelled_by o) s → (name : Name) × (s.text ≡ spelling name) × (has_name name o ≡ true)
+named_by o s has = ⊎_elim
+    (λ own. let n = one_named o.help (not o.hidden) (names_of o) s own in (n.0, n.1, list_any-append (is_name n.0) (names_of o) o.aliases ∙ or_left _ _ n.2))
+    (λ further. let n = one_named o.help false o.aliases s further in (n.0, n.1, list_any-append (is_name n.0) (names_of o) o.aliases ∙ or_right _ _ n.2))
+    (Contains-append_cases (spelled o.help (not o.hidden) (names_of o)) (spelled o.help false o.aliases) s has)
+
 named : (os : List Declared) (s : Spelled) → Contains (spellings os) s → (name : Name) × (s.text ≡ spelling name) × (list_any (has_name name) os ≡ true)
 named [] s has = absurd (none s has)
 named (o ∷ os) s has = ⊎_elim
-    (λ here. ⊎_elim
-    (λ own. let n = one_named o.help (not o.hidden) (names_of o) s own in (n.0, n.1, or_left _ _ (list_any-append (is_name n.0) (names_of o) o.aliases ∙ or_left _ _ n.2)))
-    (λ further. let n = one_named o.help false o.aliases s further in (n.0, n.1, or_left _ _ (list_any-append (is_name n.0) (names_of o) o.aliases ∙ or_right _ _ n.2)))
-    (Contains-append_cases (spelled o.help (not o.hidden) (names_of o)) (spelled o.help false o.aliases) s here))
+    (λ here. let n = named_by o s here in (n.0, n.1, or_left _ _ n.2))
     (λ later. let n = named os s later in (n.0, n.1, or_right (has_name n.0 o) _ n.2))
     (Contains-append_cases (spelled_by o) (spellings os) s has)
+
+-- ---- the spellings of the options whose index passes a test
+
+-- the option at such an index has this spelling
+abbrev IsOfOne : (ℕ → Bool) → List Declared → Spelled → Type 0
+IsOfOne passes os s = (i : ℕ) × (o : Declared) × (slice_get os i ≡ Some o) × (passes i ≡ true) × Contains (spelled_by o) s
+
+of_one : (passes : ℕ → Bool) (os : List Declared) (s : Spelled) → Contains (spellings_if passes os) s → IsOfOne passes os s
+of_one passes [] s has = absurd (none s has)
+of_one passes (o ∷ os) s has = go (passes 0) refl (λ more. let r = of_one (λ i. passes (suc i)) os s more in (suc r.0, r.1, r.2, r.3, r.4)) has
+  where
+    go : (b : Bool) → passes 0 ≡ b → (Contains (spellings_if (λ i. passes (suc i)) os) s → IsOfOne passes (o ∷ os) s) → Contains ((if b then spelled_by o else []) ++ spellings_if (λ i. passes (suc i)) os) s → IsOfOne passes (o ∷ os) s
+    go true at later has = ⊎_elim (λ own. (0, o, refl, at, own)) later (Contains-append_cases (spelled_by o) (spellings_if (λ i. passes (suc i)) os) s has)
+    go false at later has = later has
+
+has_one : (passes : ℕ → Bool) (os : List Declared) (s : Spelled) (i : ℕ) (o : Declared) → slice_get os i ≡ Some o → passes i ≡ true → Contains (spelled_by o) s → Contains (spellings_if passes os) s
+has_one passes [] s i o at is own = absurd (let within = slice_get_within [] i o at in omega (arith, within))
+has_one passes (p ∷ os) s zero o at is own =
+    Contains-append_left (if passes 0 then spelled_by p else []) (spellings_if (λ i. passes (suc i)) os) s
+    (subst (λ (b : Bool). Contains (if b then spelled_by p else []) s) (sym is) (subst (λ (q : Declared). Contains (spelled_by q) s) (sym (same_Some p o at)) own))
+has_one passes (p ∷ os) s (suc i) o at is own =
+    Contains-append_right (if passes 0 then spelled_by p else []) (spellings_if (λ i. passes (suc i)) os) s (has_one (λ i. passes (suc i)) os s i o at is own)
+
+at_index : (os : List Declared) (i : ℕ) (o : Declared) → slice_get os i ≡ Some o → spellings_at os i ≡ spelled_by o
+at_index os i o at = ap (λ x. unwrap_or (option_map spelled_by x) []) at
 
 -- ---- the spellings that pass a test
 
@@ -130,26 +163,44 @@ occurs_offered d words t possible =
 
 -- ---- what is offered
 
-pub offered_completes : (d : Declaration) (words : List (List ℕ)) (l : List Parsed) (typed t : List ℕ) → is_sound d.options ≡ true → AreText d.options → AreNamed d.options → IsOpen d words l
-    → are_accepted d.options l ≡ true → AreFilled d.positionals (positional_words l) → IsUtf8 typed → Contains (texts (filter (is_offered typed) (spellings d.options))) t → Completes d words typed t
-offered_completes d words l typed t sound text names is accepted filled utf8 has =
-    let s = kept (is_offered typed) (spellings d.options) t has in
+-- of options that pass a test, where no option before excludes an option that passes
+pub offered_completes : (d : Declaration) (words : List (List ℕ)) (l : List Parsed) (typed t : List ℕ) (passes : ℕ → Bool) → is_sound d.options ≡ true → AreText d.options → AreNamed d.options → IsOpen d words l
+    → are_accepted d.options l ≡ true → AreFilled d.positionals (positional_words l) → ((i : ℕ) → passes i ≡ true → (k : ℕ) → occurs k l ≡ true → exclude d.options k i ≡ false) → IsUtf8 typed
+    → Contains (texts (filter (is_offered typed) (spellings_if passes d.options))) t → Completes d words typed t
+offered_completes d words l typed t passes sound text names is accepted filled free utf8 has =
+    let s = kept (is_offered typed) (spellings_if passes d.options) t has in
     let b = begins_so typed s.0 s.3 in
-    subst (Completes d words typed) s.2 (record {
+    let o = of_one passes d.options s.0 s.1 in
+    let n = named_by o.1 s.0 o.4 in
+    let here = get_or_from_slice_get d.options o.0 o.1 o.1 o.2 in
+    let index = index_there d.options n.0 o.0 o.1 sound (slice_get_within d.options o.0 o.1 o.2) (ap (has_name n.0) here ∙ n.2) in
+    let can = can_occur d words l n.0 o.0 sound text names is accepted filled index (text n.0 (found (has_name n.0) d.options o.0 index)) in
+    let at : spellings_at d.options can.0.index ≡ spelled_by o.1 = ap (spellings_at d.options) can.2 ∙ at_index d.options o.0 o.1 o.2 in
+    subst (Completes d words typed) (sym n.1 ∙ s.2) (record {
       text = utf8;
-      begins = b.0;
-      possible = offered_occurs d words l s.0 sound text names is accepted filled s.1;
-      shown = ⊎_elim (λ shown. inl (keeps (λ x. x.shown) (spellings d.options) s.0 s.1 shown)) (λ whole. inr whole) b.1;
+      begins = subst (λ (x : List ℕ). starts_with nat_eq x typed ≡ true) n.1 b.0;
+      possible = can.0;
+      apart = λ k there. ap (exclude d.options k) can.2 ∙ free o.0 o.3 k (ap (occurs k) (sym can.1) ∙ there);
+      shown = ⊎_elim
+          (λ shown. inl (subst (λ (x : List ℕ). Contains (texts (filter (λ x. x.shown) (spellings_at d.options can.0.index))) x) n.1
+          (subst (λ (list : List Spelled). Contains (texts (filter (λ x. x.shown) list)) s.0.text) (sym at) (keeps (λ x. x.shown) (spelled_by o.1) s.0 o.4 shown))))
+          (λ whole. inr (sym n.1 ∙ whole)) b.1;
     })
 
-pub completes_offered : (d : Declaration) (words : List (List ℕ)) (typed t : List ℕ) → Completes d words typed t → Contains (texts (filter (is_offered typed) (spellings d.options))) t
-completes_offered d words typed t completes = ⊎_elim
+pub completes_offered : (d : Declaration) (words : List (List ℕ)) (typed t : List ℕ) (passes : ℕ → Bool) → (completes : Completes d words typed t) → passes completes.possible.index ≡ true
+    → Contains (texts (filter (is_offered typed) (spellings_if passes d.options))) t
+completes_offered d words typed t passes completes free =
+    let possible = completes.possible in
+    let o = option_there d.options possible.name possible.index possible.declared in
+    ⊎_elim
     (λ shown.
-    let s = kept (λ x. x.shown) (spellings d.options) t shown in
-    subst (Contains (texts (filter (is_offered typed) (spellings d.options)))) s.2
-    (keeps (is_offered typed) (spellings d.options) s.0 s.1 (shown_offered typed s.0 s.3 (subst (λ (x : List ℕ). starts_with nat_eq x typed ≡ true) (sym s.2) completes.begins))))
+    let s = kept (λ x. x.shown) (spelled_by o.0) t (subst (λ (list : List Spelled). Contains (texts (filter (λ x. x.shown) list)) t) (at_index d.options possible.index o.0 o.1) shown) in
+    subst (Contains (texts (filter (is_offered typed) (spellings_if passes d.options)))) s.2
+    (keeps (is_offered typed) (spellings_if passes d.options) s.0 (has_one passes d.options s.0 possible.index o.0 o.1 free s.1)
+    (shown_offered typed s.0 s.3 (subst (λ (x : List ℕ). starts_with nat_eq x typed ≡ true) (sym s.2) completes.begins))))
     (λ whole.
-    let s = occurs_offered d words t completes.possible in
-    subst (Contains (texts (filter (is_offered typed) (spellings d.options)))) s.2
-    (keeps (is_offered typed) (spellings d.options) s.0 s.1 (whole_offered typed s.0 (s.2 ∙ whole))))
+    let s = own_spelling possible.name o.0 o.2 in
+    let same = s.2 ∙ sym possible.spelled in
+    subst (Contains (texts (filter (is_offered typed) (spellings_if passes d.options)))) same
+    (keeps (is_offered typed) (spellings_if passes d.options) s.0 (has_one passes d.options s.0 possible.index o.0 o.1 free s.1) (whole_offered typed s.0 (same ∙ whole))))
     completes.shown

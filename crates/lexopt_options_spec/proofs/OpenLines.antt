@@ -1,5 +1,5 @@
 -- Lines after which an option can come.
-use Rattle.lexopt_options_spec.proofs.Common.{◌≡◌, ◌≢◌, ℕ, Bool, false, List, [], ◌∷◌, ◌++◌, map, sym, ap, subst, ◌∙◌, append_assoc, map-append, dash, IsPlain, IsNormalIn}
+use Rattle.lexopt_options_spec.proofs.Common.{◌≡◌, ◌≢◌, ℕ, Bool, false, List, [], ◌∷◌, ◌++◌, map, sym, ap, subst, ◌∙◌, append_assoc, map-append, dash, IsNormalIn}
 use Rattle.lexopt_line_spec.specs.Table.{Name, short, long, Item, positional, Kind, flag, one, optional, several, kind, Table}
 use Rattle.lexopt_line_spec.specs.Spelling as spelling
 use Rattle.lexopt_line_spec.specs.Spelling.{Letters, After, Completes, no_value, no_optional, attached_optional, joined_optional, joined_several, attached_several, several_words, attached_value, joined_value, next_word, Cluster, flag_first, last_option, Group, cluster, Line, no_words, plain_word, group, separator}

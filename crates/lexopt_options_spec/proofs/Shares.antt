@@ -1,6 +1,6 @@
 -- How many words belong to each positional.
 use Rattle.lexopt_options_spec.proofs.Common.{◌≡◌, ◌≤◌, ◌+◌, ◌-◌, ◌==◌, ◌||◌, ℕ, zero, suc, Bool, true, false, List, [], ◌∷◌, length, take, min, max, Option, Some, None, if◌then◌else◌, refl, sym, ap}
-use Rattle.lexopt_options_spec.proofs.Common.{subst, ◌∙◌, arith, eqb-true, false≢true, AllZip, list_any, sum_by, Count, Positional, once, at_most_once, any_number, at_least_once, has_to_occur}
+use Rattle.lexopt_options_spec.proofs.Common.{subst, ◌∙◌, arith, eqb-true, false≢true, AllZip, list_any, sum_by, Count, Positional, once, at_most_once, any_number, has_to_occur}
 use Rattle.lexopt_options_spec.proofs.Common.{may_repeat, IsWithin, most, least, required, AreFirst, ArePlaces, AreShares, CanTake, NoneSpare, extra, greedy, has_room, needs, owners}
 use Rattle.std.proofs.lemmas.List.Sums.{count_by-le-length, length-filter, sum_by-cons}
 

@@ -1,6 +1,6 @@
 -- What can come where a word is typed, after the words before it.
 -- The source is `docs/behaviour.md`.
-use Rattle.std.specs.Prelude.{◌≡◌, ◌≢◌, ◌<◌, ◌≤◌, ◌⊎◌, ◌++◌, ◌==◌, ℕ, length, not}
+use Rattle.std.specs.Prelude.{◌≡◌, ◌≢◌, ◌<◌, ◌≤◌, ◌⊎◌, ◌++◌, ◌==◌, ℕ, length, not, suc}
 use Rattle.std.specs.Prelude.{Bool, true, false, nat_eq, List, [], ◌∷◌, map, Option, Some, None}
 use Rattle.std.specs.Prelude.{encode_utf8, filter, if◌then◌else◌, slice_get, unwrap_or}
 use Rattle.std.specs.Char.{IsScalar}
@@ -12,8 +12,8 @@ use Rattle.lexopt_spec.specs.UnreadLine.{dash, BeginsWith, IsPlain}
 use Rattle.lexopt_line_spec.specs.Table.{Name, short, long}
 use Rattle.lexopt_options_spec.specs.Declaration.{Declaration, Declared, has_name, index_of}
 use Rattle.lexopt_options_spec.specs.Declaration.{names_of, Positional, Words, listed}
-use Rattle.lexopt_options_spec.specs.Legal.{IsWithin, Parsed, MeansWhole, MeansFront, most, option}
-use Rattle.lexopt_options_spec.specs.Legal.{positional, positional_words, several}
+use Rattle.lexopt_options_spec.specs.Legal.{IsWithin, Parsed, MeansWhole, MeansFront, exclude, most}
+use Rattle.lexopt_options_spec.specs.Legal.{occurs, option, positional, positional_words, several}
 use Rattle.lexopt_options_spec.specs.Places.{ArePlaces, refused_word}
 
 -- the word that spells the option of this name, and nothing else
@@ -63,16 +63,33 @@ spelled_by o = spelled o.help (not o.hidden) (names_of o) ++ spelled o.help fals
 abbrev pub spellings : List Declared → List Spelled
 spellings options = flat_map spelled_by options
 
+-- the spellings of the option at this index
+abbrev pub spellings_at : List Declared → ℕ → List Spelled
+spellings_at options i = unwrap_or (option_map spelled_by (slice_get options i)) []
+
+-- the spellings of those of these options whose index passes this test, in order
+abbrev pub spellings_if : (ℕ → Bool) → List Declared → List Spelled
+spellings_if passes [] = []
+spellings_if passes (o ∷ os) =
+    (if passes 0 then spelled_by o else []) ++ spellings_if (λ i. passes (suc i)) os
+
+-- no option at one of these indices excludes the option at this index
+abbrev pub is_free : List Declared → List ℕ → ℕ → Bool
+is_free options indices i = not (list_any (λ k. exclude options k i) indices)
+
 abbrev pub texts : List Spelled → List (List ℕ)
 texts list = map (λ s. s.text) list
 
--- after these words, s can come where `typed` is typed, which is UTF-8: it begins so, and is shown,
--- or is typed whole
+-- after these words, s can come where `typed` is typed, which is UTF-8: it begins so, no option
+-- before excludes the one that it spells, and it is shown, or is typed whole
 pub record Completes (d : Declaration) (words : List (List ℕ)) (typed s : List ℕ) : Type 0 where
   pub text : IsUtf8 typed
   pub begins : starts_with nat_eq s typed ≡ true
   pub possible : CanOccur d words s
-  pub shown : Contains (texts (filter (λ s. s.shown) (spellings d.options))) s ⊎ (s ≡ typed)
+  pub apart : (i : ℕ) → occurs i possible.before ≡ true
+      → exclude d.options i possible.index ≡ false
+  pub shown : Contains (texts (filter (λ s. s.shown) (spellings_at d.options possible.index))) s
+      ⊎ (s ≡ typed)
 
 -- this spelling of an option that can come is offered where this is typed
 abbrev pub is_offered : List ℕ → Spelled → Bool

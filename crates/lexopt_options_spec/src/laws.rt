@@ -1,6 +1,6 @@
 //! Laws of these definitions, on which nothing depends. `lexopt_laws` has laws of reading lines.
 ghost use Rattle.std.specs.Prelude.{◌≡◌, ◌≤◌, ◌<◌, ◌⊎◌, ◌+◌, ◌∷◌, ◌++◌, [], Bool, Contains, List};
-ghost use Rattle.std.specs.Prelude.{ℕ, codes, length, true};
+ghost use Rattle.std.specs.Prelude.{ℕ, codes, false, length, true};
 ghost use Rattle.lexopt_line_spec.specs.Table.{Item, long, short};
 ghost use Rattle.lexopt_line_spec.specs.Spelling.{Spells};
 ghost use Rattle.lexopt_options_spec.specs.Completion.{AreText};
@@ -9,7 +9,8 @@ ghost use Rattle.lexopt_options_spec.specs.Declaration.{Declaration, Declared, D
 ghost use Rattle.lexopt_options_spec.specs.Declaration.{IsFirstFault, Reason, is_sound, table};
 ghost use Rattle.lexopt_options_spec.specs.Help.{HasTextNames, IsEntry, IsHelp, IsParagraph};
 ghost use Rattle.lexopt_options_spec.specs.Help.{IsUsage, IsUsageLine, LabelForm, Line, ShowsName};
-ghost use Rattle.lexopt_options_spec.specs.Help.{before_alone, blanks, columns, gap, help_column};
+ghost use Rattle.lexopt_options_spec.specs.Help.{before_alone, blanks, columns, entered, gap};
+ghost use Rattle.lexopt_options_spec.specs.Help.{help_column, shows};
 ghost use Rattle.lexopt_options_spec.specs.Help.{label, line_columns, line_feed, usage_column};
 
 /// The prover computes the first fault of the options that `Options::new` is given. If the names of
@@ -61,6 +62,14 @@ pub fn labels_show_their_names()
         → o.long_name ≡ Some name → (first : List ℕ) × (second : List ℕ)
         × ShowsName o (short c) first × ShowsName o (long name) second
         × (label o ≡ first ++ codes ", " ++ second) }
+{}
+
+/// If the options can be declared together, the help has each that is not hidden: it has an entry of
+/// its own, or the label of an option that has an entry shows it.
+pub fn options_are_in_the_help()
+    ensures { (options : List Declared) (o : Declared) → is_sound options ≡ true
+        → Contains options o → o.hidden ≡ false → Contains (entered options) o
+        ⊎ ((p : Declared) × Contains (entered options) p × (shows p o ≡ true)) }
 {}
 
 /// For each width, a declaration has exactly one usage, exactly one brief help and exactly one full

@@ -1,4 +1,4 @@
-//! A declaration whose options are in several groups.
+//! A declaration whose options are in several groups, or that shares a group with others.
 ghost use Rattle.std.specs.Prelude.{◌≡◌, ◌++◌, IfOk, None, map, true};
 ghost use Rattle.lexopt_options_spec.specs.Declarable.{first_fault};
 ghost use Rattle.lexopt_options_spec.specs.Declaration.{are_clear, are_listable};
@@ -15,8 +15,9 @@ use std::convert::Infallible;
 /// The prover goes through all of a static in each function that names it, at a cost that grows
 /// with the square of its texts, and it stops at its step limit somewhere between 120 and 140
 /// options. So a program with more than a hundred declares them in groups of some thirty, each a
-/// static of its own. [`Combined::new`] puts the groups together, and [`Combined::declaration`]
-/// returns a declaration with all of their options.
+/// static of its own. [`Combined::new`] puts the groups together, [`Combined::with_shared`] puts a
+/// group that several declarations share behind the options of one, and [`Combined::declaration`]
+/// returns a declaration with all of the options.
 ///
 /// # Examples
 ///
@@ -84,8 +85,8 @@ impl<'a, F: Copy, V: Copy, P, M: Copy, S: Copy> Combined<'a, F, V, P, M, S> {
     /// `Key::Shared(..)`. [`split_shared`](crate::split_shared) takes what is read apart again, so
     /// that one function of the program can read the options of the group, whichever declaration
     /// shares it. The general options of a program that are to be accepted after the name of a
-    /// command too are such a group of the general declaration and of that command's. The group of
-    /// two groups is shared by sharing one after the other.
+    /// command too are such a group of the general declaration and of that command's. To share two
+    /// groups, share the second one with the declaration that the first call has made.
     ///
     /// The prover computes for statics and constants that all of this can be declared together. So
     /// `rt check` refuses a program with a faulty declaration. If an option is at fault, the

@@ -1,14 +1,18 @@
 -- The clauses of `complete` and `answer`, for the tool.
-use Rattle.std.proofs.Common.{◌≡◌, ℕ, List, [], ◌∷◌, ◌++◌, Some, None, subst, sym, ap, ◌∙◌, refl, map, option_map, Option, slice_get, string_bytes, codes, inl, inr, ⊎_elim, Bool, false}
+use Rattle.std.proofs.Common.{◌≡◌, ℕ, List, [], ◌∷◌, ◌++◌, Some, None, subst, sym, ap, ◌∙◌, refl, map, option_map, Option, slice_get, string_bytes, codes, inl, inr, ⊎_elim, Bool, false, true, not, suc, ◌||◌}
 use Rattle.std.specs.Prelude.{String, if◌then◌else◌, unwrap_or}
 use Rattle.std.specs.Global.{Global}
 use Rattle.std.specs.List.{flat_map, list_any}
+use Rattle.std.specs.Option.{is_some}
 use Rattle.std.proofs.Math.Path.{fun_ext}
 use Rattle.std.proofs.lemmas.Option.{slice_get-map}
 use Rattle.lexopt_line_spec.proofs.Computing.{computing}
 use Rattle.lexopt_options_spec.specs.Declaration.{Declaration, for_brief_help, for_help, for_version}
 use Rattle.lexopt_options_spec.specs.Completion as completion
-use Rattle.lexopt_options_spec.specs.Completion.{AreOwnersIn, HasRole, IsJoined, offered_values}
+use Rattle.lexopt_options_spec.specs.Completion.{AreOwnersIn, HasRole, IsJoined, is_free, offered_values, spelled_by, spellings, spellings_if}
+use Rattle.lexopt_options_spec.specs.Declaration as declared
+use Rattle.lexopt_options_spec.specs.Legal.{exclude}
+use Rattle.lexopt_options_spec.proofs.Apart.{none_exclude}
 use Rattle.lexopt_declaration.specs.Scripts.{request_text, shell_script, variable_name}
 use Rattle.lexopt_declaration.specs.declared.shell.Shell.{Shell}
 use Rattle.lexopt_declaration.specs.declared.shell.ShellRequest.TheVariants as asks
@@ -58,9 +62,21 @@ same_joined options None (Some f) is = is
 same_joined options (Some j) None is = is
 same_joined options (Some j) (Some f) is = is.1
 
+-- no option of the tool excludes another
+none_excluded : (options : List declared.Declared) (indices : List ℕ) (i : ℕ) → list_any (λ o. is_some o.exclusive) options ≡ false → is_free options indices i ≡ true
+none_excluded options [] i none = refl
+none_excluded options (k ∷ indices) i none = ap (λ (b : Bool). not (b || list_any (λ j. exclude options j i) indices)) (none_exclude options none k i) ∙ none_excluded options indices i none
+
+all_pass : (passes : ℕ → Bool) (os : List declared.Declared) → ((i : ℕ) → passes i ≡ true) → spellings_if passes os ≡ spellings os
+all_pass passes [] all = refl
+all_pass passes (o ∷ os) all =
+    ap (λ (b : Bool). (if b then spelled_by o else []) ++ spellings_if (λ i. passes (suc i)) os) (all 0) ∙ ap (λ l. spelled_by o ++ l) (all_pass (λ i. passes (suc i)) os (λ i. all (suc i)))
+
 pub in_order : (words : List (List ℕ)) (typed : List ℕ) (offered : List (List ℕ × List ℕ)) → AreOffered tool words typed offered → AreInOrder typed offered
 unfolding computing
-in_order words typed offered are = are.in_order
+in_order words typed offered are = ⊎_elim
+    (λ some. inl (some.1 ∙ ap (completion.offered typed) (all_pass (is_free tool_options some.0) tool_options (λ i. none_excluded tool_options some.0 i refl))))
+    (λ none. inr none) are.in_order
 
 -- ---- the text of a completion
 

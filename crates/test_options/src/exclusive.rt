@@ -1,6 +1,7 @@
 //! Options that exclude each other: what is read of a line, an option at fault, and the usage line.
 use lexopt_options::{
-    Declaration, Line, Mistake, Names, Options, RestStart, declare, declare_option, read_rest,
+    Declaration, Line, Mistake, Names, Options, OsString, RestStart, declare, declare_option,
+    read_rest,
 };
 use lexopt_runtime_options::{DeclarationError, Reason, try_options};
 use std::alloc::{AllocError, Global};
@@ -160,4 +161,34 @@ fn usage(rt: HostRuntime) {
         .expect(&rt, "memory");
     let wanted = "Usage: show [OPTION]... [--json | --columns=LIST] [-v] FILE\n";
     assert_eq!(rt; usage.as_str(), wanted);
+}
+
+// Lines, what is typed after them, and the spellings that are offered.
+static OFFERED: [(&[u8], &str, &str); 6] = [
+    (b"-v", "--", "--json --columns --jobs --help "),
+    (b"-j", "--", "--json --jobs --help "),
+    (b"a --xml", "--", "--jobs --help "),
+    (b"--xml", "--xml", "--xml "),
+    (b"--columns -j", "--xml", ""),
+    (b"-j --xml a", "-", "-v --jobs --help "),
+];
+
+// The spellings that are offered where this is typed after this line.
+fn offered(alloc: Global, line: &[u8], typed: &str) -> Result<String, AllocError> {
+    let typed = OsString::from_text(alloc, typed)?;
+    let found = Options::new(&SHOW).complete(alloc, words_of(alloc, line)?, &typed)?;
+    let mut text = String::new(alloc);
+    for spelling in &found.spellings {
+        text.push_str(spelling.text.as_str())?;
+        text.push(' ')?;
+    }
+    Ok(text)
+}
+
+#[test]
+fn completion(rt: HostRuntime) {
+    for (line, typed, wanted) in OFFERED.iter() {
+        let text = offered(rt.alloc(), line, typed).expect(&rt, "memory");
+        assert_eq!(rt; text.as_str(), *wanted, "{line:?} {typed:?}");
+    }
 }

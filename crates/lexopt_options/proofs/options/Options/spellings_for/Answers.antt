@@ -1,4 +1,4 @@
-use Rattle.lexopt_options.proofs.Common.{refl, subst, sym, IsSome, declaration_of, options_of, IsFrontOf}
+use Rattle.lexopt_options.proofs.Common.{refl, subst, sym, IsSome, declaration_of, options_of}
 use Rattle.lexopt_options.proofs.Completing.{all_named, none_begins, none_stands, offered_all}
 use Rattle.lexopt_options.proofs.options.Options.spellings_for.Goals as goal
 
@@ -17,6 +17,6 @@ returns-then-not-can_come g c = λ words is.
 pub returns-in-Some : goal.returns-in-Some
 returns-in-Some g c =
     let d = declaration_of c.args.self.now in
-    offered_all d c.args.typed.now c.spellings_of.result _ c.as_bytes.result.now (λ words. IsFrontOf d words c.args.front.now) c.args.self.now.sound c.args.self.now.listable (all_named (options_of c.args.self.now)) (c.to_str.ensures.exactly_on_utf8.0 (subst IsSome (sym c.in-Some.is) refl))
+    offered_all d c.args.typed.now c.spellings_of.result _ c.args.front.now c.seen_of.result.now c.as_bytes.result.now c.args.self.now.sound c.args.self.now.listable (all_named (options_of c.args.self.now)) (c.to_str.ensures.exactly_on_utf8.0 (subst IsSome (sym c.in-Some.is) refl))
     (λ words is. rw c.if-not-can_come.false at (c.can_come.ensures words is))
-    c.options.ensures.view c.as_bytes.ensures c.spellings_of.ensures.text c.spellings_of.ensures.spellings
+    c.seen_of.ensures c.options.ensures.view c.as_bytes.ensures c.spellings_of.ensures.text c.spellings_of.ensures.spellings
