@@ -9,4 +9,6 @@ mod git;
 #[cfg(test)]
 mod levels;
 #[cfg(test)]
+mod shared;
+#[cfg(test)]
 mod wrapped;
