@@ -57,9 +57,8 @@ impl<C: Copy> Clone for Command<'_, C> {
 
     fn clone(&self) -> Result<Self, AllocError> {
         Ok(Command {
-            name: self.name,
-            help: self.help,
             runs: self.runs.clone()?,
+            ..*self
         })
     }
 }

@@ -1,12 +1,16 @@
 //! Mistakes that a program itself finds in what was read, and what is printed about them.
-ghost use Rattle.std.specs.Prelude.{◌≡◌};
+ghost use Rattle.std.specs.Prelude.{◌≡◌, Some, None};
 ghost use Rattle.std.specs.Fmt.{WritesOnOk};
 ghost use Rattle.std.specs.Process.{exit_status};
-ghost use Rattle.lexopt_declaration.specs.Lookups.{names_at};
-ghost use Rattle.lexopt_options.specs.Declarations.{options_of};
+ghost use Rattle.lexopt_declaration.specs.Lookups.{names_at, help_names};
+ghost use Rattle.lexopt_options.specs.Declarations.{options_of, declaration_of};
 ghost use Rattle.lexopt_options.specs.Usage as usage;
 ghost use Rattle.lexopt_options.specs.Usage.{ConvertsFor, for_option, invalid_message};
-ghost use Rattle.lexopt_options.specs.Usage.{value_message, what_message, why_message};
+ghost use Rattle.lexopt_options.specs.Usage.{value_message, why_message, usage_message, invalid};
+ghost use Rattle.lexopt_options.specs.Usage.{report_status, report_text, value_names, maybe_names};
+ghost use Rattle.lexopt_options.specs.Usage.{values_names};
+ghost use Rattle.lexopt_options.specs.declared.usage.UsageError.TheVariants.{OutOfMemory};
+ghost use Rattle.lexopt_options.specs.declared.usage.UsageError.TheVariants.{Formatted, Text};
 
 use crate::options::Options;
 use crate::refused::USAGE_ERROR;
@@ -74,9 +78,6 @@ pub enum UsageError<'a> {
 }
 
 impl fmt::Display for UsageError<'_> {
-    ghost use Rattle.std.specs.Prelude.{Some};
-    ghost use Rattle.lexopt_options.specs.Usage.{usage_message};
-
     ghost output = { λ error. Some (usage_message error) };
 
     fn fmt<W: fmt::Write>(&self, f: &mut fmt::Formatter<W>) -> fmt::Result {
@@ -90,9 +91,6 @@ impl fmt::Display for UsageError<'_> {
 }
 
 impl fmt::Debug for UsageError<'_> {
-    ghost use Rattle.std.specs.Prelude.{Some};
-    ghost use Rattle.lexopt_options.specs.Usage.{usage_message};
-
     ghost debug_output = { λ error. Some (usage_message error) };
 
     fn fmt<W: fmt::Write>(&self, f: &mut fmt::Formatter<W>) -> fmt::Result {
@@ -103,9 +101,6 @@ impl fmt::Debug for UsageError<'_> {
 impl std::error::Error for UsageError<'_> {}
 
 impl From<AllocError> for UsageError<'_> {
-    ghost use Rattle.std.specs.Prelude.{◌≡◌};
-    ghost use Rattle.lexopt_options.specs.declared.usage.UsageError.TheVariants.{OutOfMemory};
-
     ghost from_gives = { λ _ error. error ≡ OutOfMemory };
 
     fn from(_error: AllocError) -> Self {
@@ -114,9 +109,6 @@ impl From<AllocError> for UsageError<'_> {
 }
 
 impl<T: Drop> From<AllocFailed<T>> for UsageError<'_> {
-    ghost use Rattle.std.specs.Prelude.{◌≡◌};
-    ghost use Rattle.lexopt_options.specs.declared.usage.UsageError.TheVariants.{OutOfMemory};
-
     ghost from_gives = { λ _ error. error ≡ OutOfMemory };
 
     fn from(_error: AllocFailed<T>) -> Self {
@@ -125,9 +117,6 @@ impl<T: Drop> From<AllocFailed<T>> for UsageError<'_> {
 }
 
 impl From<Error> for UsageError<'_> {
-    ghost use Rattle.std.specs.Prelude.{◌≡◌, None};
-    ghost use Rattle.lexopt_options.specs.Usage.{invalid};
-
     ghost from_gives = { λ error usage. usage ≡ invalid None error };
 
     /// Makes [`UsageError::Invalid`] of the error, which names no option; and
@@ -139,9 +128,6 @@ impl From<Error> for UsageError<'_> {
 }
 
 impl From<String> for UsageError<'_> {
-    ghost use Rattle.std.specs.Prelude.{◌≡◌};
-    ghost use Rattle.lexopt_options.specs.declared.usage.UsageError.TheVariants.{Formatted};
-
     ghost from_gives = { λ text error. error ≡ Formatted text };
 
     /// Makes [`UsageError::Formatted`] of a text, which is kept whole.
@@ -151,9 +137,6 @@ impl From<String> for UsageError<'_> {
 }
 
 impl<'a> From<&'a str> for UsageError<'a> {
-    ghost use Rattle.std.specs.Prelude.{◌≡◌};
-    ghost use Rattle.lexopt_options.specs.declared.usage.UsageError.TheVariants.{Text};
-
     ghost from_gives = { λ text error. error ≡ Text text };
 
     /// Makes [`UsageError::Text`] of a text, which is kept whole.
@@ -175,9 +158,6 @@ pub struct Report<'a> {
 }
 
 impl Report<'_> {
-    ghost use Rattle.std.specs.Prelude.{◌≡◌};
-    ghost use Rattle.lexopt_options.specs.Usage.{report_status};
-
     /// Returns the status to exit with: 1 after [`UsageError::OutOfMemory`], otherwise
     /// [`USAGE_ERROR`](crate::USAGE_ERROR).
     pub fn status(&self) -> u8
@@ -200,9 +180,6 @@ impl Report<'_> {
 }
 
 impl fmt::Display for Report<'_> {
-    ghost use Rattle.std.specs.Prelude.{Some};
-    ghost use Rattle.lexopt_options.specs.Usage.{report_text};
-
     ghost output = { λ report. Some (report_text report) };
 
     /// Writes the name of the program and the mistake; and on a second line where the help is, if
@@ -219,9 +196,6 @@ impl fmt::Display for Report<'_> {
 }
 
 impl fmt::Debug for Report<'_> {
-    ghost use Rattle.std.specs.Prelude.{Some};
-    ghost use Rattle.lexopt_options.specs.Usage.{report_text};
-
     ghost debug_output = { λ report. Some (report_text report) };
 
     fn fmt<W: fmt::Write>(&self, f: &mut fmt::Formatter<W>) -> fmt::Result {
@@ -236,17 +210,6 @@ fn invalid<'a>(option: Option<Names<'a>>, error: Error) -> UsageError<'a>
     match error {
         Error::OutOfMemory => UsageError::OutOfMemory,
         error => UsageError::Invalid { option, error },
-    }
-}
-
-// Writes that a value is invalid, and the value if the error has it.
-fn write_what<W: fmt::Write>(error: &Error, f: &mut fmt::Formatter<W>) -> fmt::Result
-    ensures { WritesOnOk W.write_str_gives f.old result (what_message error.now) f.new }
-{
-    match error {
-        Error::ParsingFailed { value, .. } => write_value(value.as_bytes(), f),
-        Error::NonUnicodeValue(value) => write_value(value.as_bytes(), f),
-        _ => f.write_str("invalid value"),
     }
 }
 
@@ -288,10 +251,12 @@ fn write_message<W: fmt::Write>(
     ensures { WritesOnOk W.write_str_gives f.old result (invalid_message option.entry error.now)
         f.new }
 {
-    if matches!(error, Error::OutOfMemory) {
-        return write_no_memory(f);
+    match error {
+        Error::OutOfMemory => return write_no_memory(f),
+        Error::ParsingFailed { value, .. } => write_value(value.as_bytes(), f)?,
+        Error::NonUnicodeValue(value) => write_value(value.as_bytes(), f)?,
+        _ => f.write_str("invalid value")?,
     }
-    write_what(error, f)?;
     write_option(option, f)?;
     write_why(error, f)
 }
@@ -346,9 +311,6 @@ where
 }
 
 impl<'a, F, V: Copy + PartialEq, P, M, S> Options<'a, F, V, P, M, S> {
-    ghost use Rattle.lexopt_options.specs.Declarations.{options_of};
-    ghost use Rattle.lexopt_options.specs.Usage.{ConvertsFor, value_names};
-
     /// Converts a value of the option with this key, by the type's `FromStr`.
     ///
     /// # Errors
@@ -400,9 +362,6 @@ impl<'a, F, V: Copy + PartialEq, P, M, S> Options<'a, F, V, P, M, S> {
 }
 
 impl<'a, F, V, P, M: Copy + PartialEq, S> Options<'a, F, V, P, M, S> {
-    ghost use Rattle.lexopt_options.specs.Declarations.{options_of};
-    ghost use Rattle.lexopt_options.specs.Usage.{ConvertsFor, maybe_names};
-
     /// Converts the value of an option whose value may be left out, as [`Options::parse_value`]
     /// does. It returns the errors of that call, for the first such option with this key.
     pub fn parse_maybe<T: FromStr>(&self, key: M, word: &OsString) -> Result<T, UsageError<'a>>
@@ -420,9 +379,6 @@ impl<'a, F, V, P, M: Copy + PartialEq, S> Options<'a, F, V, P, M, S> {
 }
 
 impl<'a, F, V, P, M, S: Copy + PartialEq> Options<'a, F, V, P, M, S> {
-    ghost use Rattle.lexopt_options.specs.Declarations.{options_of};
-    ghost use Rattle.lexopt_options.specs.Usage.{ConvertsFor, values_names};
-
     /// Converts one of the values of an option of several values, as [`Options::parse_value`] does.
     /// It returns the errors of that call, for the first such option with this key.
     pub fn parse_values<T: FromStr>(&self, key: S, word: &OsString) -> Result<T, UsageError<'a>>
@@ -440,10 +396,6 @@ impl<'a, F, V, P, M, S: Copy + PartialEq> Options<'a, F, V, P, M, S> {
 }
 
 impl<'a, F, V, P, M, S> Options<'a, F, V, P, M, S> {
-    ghost use Rattle.std.specs.Prelude.{◌≡◌};
-    ghost use Rattle.lexopt_declaration.specs.Lookups.{help_names};
-    ghost use Rattle.lexopt_options.specs.Declarations.{declaration_of, options_of};
-
     /// Returns what to print about a mistake that the program found. [`Report::print`] prints it.
     ///
     /// # Examples

@@ -1,6 +1,6 @@
 use Rattle.std.proofs.Common.{◌∙◌, string_bytes}
 use Rattle.lexopt_commands.proofs.Entries.{appended, in_parts}
-use Rattle.lexopt_commands.proofs.help.help_of.Goals as goal
+use Rattle.lexopt_commands.proofs.commands.Commands.help.Goals as goal
 
 pub returns : goal.returns
 returns g c =
@@ -16,9 +16,9 @@ returns g c =
       options = os.0;
       epilogue = e.0;
       usage_first = c.in_ok-text.ensures;
-      about_next = rw c.about.ensures at a.1;
-      each_command = cs.1;
-      each_option = rw c.options.ensures.view at os.1;
-      each_paragraph = rw (c.shown_epilogue-epilogue.ensures, c.epilogue.ensures) at e.1;
+      about_next = rw (c.about.ensures, c.options-options.ensures.same) at a.1;
+      each_command = rw c.commands.ensures.same at cs.1;
+      each_option = rw (c.options.ensures.view, c.options-options.ensures.same) at os.1;
+      each_paragraph = rw (c.shown_epilogue-epilogue.ensures, c.epilogue.ensures, c.options-options.ensures.same) at e.1;
       written = in_parts _ a.0 _ _ _ _ _ _ _ a.2 commands os.2 e.2;
     }
