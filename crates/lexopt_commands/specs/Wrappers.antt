@@ -1,11 +1,12 @@
 -- What a program whose line ends with a rest has to do about its words, or about a request of a shell.
 -- The source is `docs/behaviour.md`.
-use Rattle.std.specs.Prelude.{◌≡◌, ◌≢◌, ◌⊎◌, ◌++◌, ◌∷◌, ◌&&◌, ℕ, Bool, true, false, not}
-use Rattle.std.specs.Prelude.{if◌then◌else◌, List, [], codes, length, string_bytes, Vec, nat_eq}
+use Rattle.std.specs.Prelude.{◌≡◌, ◌≢◌, ◌⊎◌, ◌++◌, ◌∷◌, ◌==◌, ◌&&◌, ℕ, Bool, true, false, not}
+use Rattle.std.specs.Prelude.{if◌then◌else◌, List, [], codes, length, string_bytes}
+use Rattle.std.specs.Prelude.{Vec}
 use Rattle.std.specs.Fmt.{decimal}
-use Rattle.std.specs.List.{starts_with}
 use Rattle.std.specs.Global.{Global}
 use Rattle.std.specs.declared.convert.Infallible.{Infallible}
+use Rattle.lexopt_spec.specs.UnreadLine.{dash}
 use Rattle.lexopt_options_spec.specs.Declaration as spec
 use Rattle.lexopt_options_spec.specs.Declaration.{Count, any_number, at_most_once, files, once}
 use Rattle.lexopt_options_spec.specs.Help.{line_feed}
@@ -82,6 +83,10 @@ whole_of w = record (declaration_of w.options) {
 abbrev pub command_line : ℕ → List ℕ
 command_line n = codes "command\t" ++ (decimal n ++ line_feed ∷ [])
 
+abbrev pub begins_with_dash : List ℕ → Bool
+begins_with_dash [] = false
+begins_with_dash (b ∷ bs) = b == dash
+
 -- the line for a rest of which this many words come before the one that is typed
 abbrev pub rest_line : RestStart → ℕ → List ℕ
 rest_line Surplus n = command_line n
@@ -91,7 +96,7 @@ rest_line Separated n = codes "files\n"
 -- by whether a rest can begin there
 abbrev pub text_before : RestStart → List ℕ → Bool → List ℕ → List ℕ
 text_before Surplus own begins typed =
-    own ++ (if begins && not (starts_with nat_eq typed (codes "-")) then command_line 0 else [])
+    own ++ (if begins && not (begins_with_dash typed) then command_line 0 else [])
 text_before Separated own begins typed = if begins then codes "files\n" else own
 
 -- The words have a rest, which the shell completes as a command line or by the names of files. Or

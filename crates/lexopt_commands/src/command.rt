@@ -57,8 +57,9 @@ impl<C: Copy> Clone for Command<'_, C> {
 
     fn clone(&self) -> Result<Self, AllocError> {
         Ok(Command {
+            name: self.name,
+            help: self.help,
             runs: self.runs.clone()?,
-            ..*self
         })
     }
 }

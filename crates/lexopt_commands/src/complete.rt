@@ -2,7 +2,7 @@
 //! in `lexopt_options` has the same for declared options.
 ghost use Rattle.std.specs.Prelude.{◌≡◌, ◌++◌, IfOk, OnOk, string_bytes};
 ghost use Rattle.std.specs.List.{flat_map};
-ghost use Rattle.lexopt_commands.specs.Completions.{begun_line, place, place_at_help};
+ghost use Rattle.lexopt_commands.specs.Completions.{begun_line, name_line, place, place_at_help};
 ghost use Rattle.lexopt_commands.specs.Views.{place_view};
 
 use crate::answer::Step;
@@ -60,8 +60,19 @@ fn place_after<'a, C: Copy>(commands: &[Command<'a, C>], words: Vec<OsString>) -
     }
 }
 
-// Adds the line for a command if its name begins with what was typed: `+`, the name, a tab, and its
-// help text.
+// Adds the line for a command: `+`, its name, a tab, and its help text.
+fn push_name<C>(text: &mut String, command: &Command<'_, C>) -> Result<(), AllocError>
+    ensures { OnOk result
+        (string_bytes text.new ≡ string_bytes text.old ++ name_line command.now) }
+{
+    text.push('+')?;
+    text.push_str(command.name)?;
+    text.push('\t')?;
+    push_help(text, command.help)?;
+    text.push('\n')
+}
+
+// Adds the line for a command if its name begins with what was typed.
 fn push_begun<C>(
     text: &mut String,
     command: &Command<'_, C>,
@@ -70,14 +81,11 @@ fn push_begun<C>(
     ensures { OnOk result
         (string_bytes text.new ≡ string_bytes text.old ++ begun_line typed.now command.now) }
 {
-    if !command.name.as_bytes().starts_with(typed.as_bytes()) {
-        return Ok(());
+    if command.name.as_bytes().starts_with(typed.as_bytes()) {
+        push_name(text, command)
+    } else {
+        Ok(())
     }
-    text.push('+')?;
-    text.push_str(command.name)?;
-    text.push('\t')?;
-    push_help(text, command.help)?;
-    text.push('\n')
 }
 
 // The lines for the commands whose names begin with what was typed.

@@ -42,6 +42,39 @@ const COMMAND: Rest<'static> = Rest {
     required: true,
 };
 
+// The usage, wrapped to `width` columns: that of the general options, with a command after them.
+fn usage_of<F, V, M, S>(
+    alloc: Global,
+    options: &Options<'_, F, V, Infallible, M, S>,
+    width: usize,
+) -> Result<String, AllocError>
+    ensures { IfOk result (λ text.
+        IsUsage width (with_command (declaration_of options.now)) (string_bytes text)) }
+{
+    Wrapper::new(*options, COMMAND).usage(alloc, width)
+}
+
+// The help, wrapped to `width` columns.
+fn help_of<C, F, V, M, S>(
+    alloc: Global,
+    detail: Detail,
+    options: &Options<'_, F, V, Infallible, M, S>,
+    commands: &[Command<'_, C>],
+    width: usize,
+) -> Result<String, AllocError>
+    ensures { IfOk result (λ text. IsHelp (detail_view detail) (declaration_of options.now)
+        commands.now width (string_bytes text)) }
+{
+    let mut text = usage_of(alloc, options, width)?;
+    push_paragraph(&mut text, alloc, options.about(), width)?;
+    let entries = command_entries(alloc, commands, width)?;
+    push_apart(&mut text, entries.as_str())?;
+    push_options(&mut text, alloc, detail, options.options(), width)?;
+    let epilogue = shown_epilogue(detail, options.epilogue());
+    push_epilogue(&mut text, alloc, epilogue, width)?;
+    Ok(text)
+}
+
 impl<C, F, V, M, S> Commands<'_, C, F, V, M, S> {
     ghost use Rattle.std.specs.Prelude.{IfOk, string_bytes};
     ghost use Rattle.lexopt_options_spec.specs.Help.{IsUsage};
@@ -66,7 +99,7 @@ impl<C, F, V, M, S> Commands<'_, C, F, V, M, S> {
         ensures { IfOk result (λ text. IsUsage width
             (with_command (declaration_of self.now.options)) (string_bytes text)) }
     {
-        Wrapper::new(self.options(), COMMAND).usage(alloc, width)
+        usage_of(alloc, &self.options(), width)
     }
 
     /// Returns the help of the program, wrapped to `width` columns.
@@ -104,14 +137,6 @@ impl<C, F, V, M, S> Commands<'_, C, F, V, M, S> {
         ensures { IfOk result (λ text. IsHelp (detail_view detail)
             (declaration_of self.now.options) self.now.commands.now width (string_bytes text)) }
     {
-        let options = self.options();
-        let mut text = self.usage(alloc, width)?;
-        push_paragraph(&mut text, alloc, options.about(), width)?;
-        let entries = command_entries(alloc, self.commands(), width)?;
-        push_apart(&mut text, entries.as_str())?;
-        push_options(&mut text, alloc, detail, options.options(), width)?;
-        let epilogue = shown_epilogue(detail, options.epilogue());
-        push_epilogue(&mut text, alloc, epilogue, width)?;
-        Ok(text)
+        help_of(alloc, detail, &self.options(), self.commands(), width)
     }
 }

@@ -1,11 +1,11 @@
 //! Reads a line up to the name of a command, and what that name and the words after it mean. The
 //! file of this name in `lexopt_options` reads whole lines.
-ghost use Rattle.std.specs.Prelude.{◌≡◌, ◌==◌, ◌∷◌, [], IfOk, codes, map, nat_eq, position};
+ghost use Rattle.std.specs.Prelude.{◌≡◌, ◌==◌, ◌∷◌, [], IfOk, None, codes, map, nat_eq, position};
 ghost use Rattle.std.specs.List.{starts_with};
 ghost use Rattle.std.specs.Option.{MatchOption};
 ghost use Rattle.std.specs.Cmp.Lexicographic.{pointwise};
-ghost use Rattle.lexopt_commands.specs.Meanings.{command_of, first_dashed, help_of};
-ghost use Rattle.lexopt_commands.specs.Meanings.{meaning, with_help};
+ghost use Rattle.lexopt_commands.specs.Meanings.{command_at, command_of, first_dashed, help_of};
+ghost use Rattle.lexopt_commands.specs.Meanings.{helped, meaning, with_help};
 ghost use Rattle.lexopt_commands.specs.Mistakes.{IsHint};
 ghost use Rattle.lexopt_commands.specs.Names.{names_of};
 ghost use Rattle.lexopt_commands.specs.Views.{meaning_view};
@@ -58,6 +58,23 @@ fn place_of<C>(commands: &[Command<'_, C>], name: &[u8]) -> Option<usize>
     commands.iter().position(|command| is_named(command, name))
 }
 
+// The command at this index.
+fn command_at<'a, C: Copy>(
+    commands: &[Command<'a, C>],
+    index: Option<usize>,
+) -> Option<Command<'a, C>>
+    ensures { result ≡ command_at commands.now index }
+{
+    match commands.get(index?) {
+        Some(command) => Some(Command {
+            name: command.name,
+            help: command.help,
+            runs: command.runs,
+        }),
+        None => None,
+    }
+}
+
 /// The first command with this name; `None` if there is none.
 pub(crate) fn command_of<'a, C: Copy>(
     commands: &[Command<'a, C>],
@@ -65,13 +82,7 @@ pub(crate) fn command_of<'a, C: Copy>(
 ) -> Option<Command<'a, C>>
     ensures { result ≡ command_of commands.now name.now }
 {
-    match commands.get(place_of(commands, name)?) {
-        Some(command) => Some(Command {
-            runs: command.runs,
-            ..*command
-        }),
-        None => None,
-    }
+    command_at(commands, place_of(commands, name))
 }
 
 /// Takes the first of these words; `None` if there is none.
@@ -86,8 +97,8 @@ pub(crate) fn take_first(words: &mut Vec<OsString>) -> Option<OsString>
     }
 }
 
-/// Whether a word begins with a dash.
-pub(crate) fn begins_with_dash(word: &OsString) -> bool
+// Whether a word begins with a dash.
+fn begins_with_dash(word: &OsString) -> bool
     ensures { result ≡ starts_with nat_eq word.now (codes "-") }
 {
     word.as_bytes().starts_with(b"-".as_slice())
@@ -111,6 +122,22 @@ fn with_help(alloc: Global, words: Vec<OsString>) -> Result<Vec<OsString>, Alloc
     Ok(words)
 }
 
+// What these words mean after a name that asks for the help, where the first is not the name of a
+// command.
+fn help_of_other<'a, C>(
+    alloc: Global,
+    word: OsString,
+    rest: Vec<OsString>,
+) -> Result<Meaning<'a, C>, AllocError>
+    ensures { IfOk result (λ found. meaning_view found ≡ helped None word rest.items) }
+{
+    if word.as_bytes() == HELP.as_bytes() {
+        Ok(Meaning::Help)
+    } else {
+        Ok(Meaning::Unknown(word, with_help(alloc, rest)?))
+    }
+}
+
 // What words mean after a name that asks for the help.
 fn help_of<'a, C: Copy>(
     alloc: Global,
@@ -124,10 +151,7 @@ fn help_of<'a, C: Copy>(
         return Ok(Meaning::Help);
     };
     let Some(command) = command_of(commands, word.as_bytes()) else {
-        if word.as_bytes() == HELP.as_bytes() {
-            return Ok(Meaning::Help);
-        }
-        return Ok(Meaning::Unknown(word, with_help(alloc, words)?));
+        return help_of_other(alloc, word, words);
     };
     match command.runs {
         Runs::Command(key) => Ok(Meaning::Command(command.name, key, with_help(alloc, words)?)),

@@ -1,13 +1,13 @@
 //! Declared options of a program whose line ends with a rest, which it does not read: the command line
 //! of another program, as that of `timeout`, or the words after the separator.
-ghost use Rattle.std.specs.Prelude.{◌≡◌, ◌++◌, ◌&&◌, IfOk, map, not, string_bytes};
-ghost use Rattle.lexopt_declaration.specs.Models.{positional_view};
+ghost use Rattle.std.specs.Prelude.{◌≡◌, ◌++◌, ◌&&◌, [], IfOk, map, not};
+ghost use Rattle.std.specs.Prelude.{if◌then◌else◌, string_bytes};
+ghost use Rattle.lexopt_declaration.specs.Models.{count_view, positional_view};
 ghost use Rattle.lexopt_options.specs.RestStarts.{start_view};
-ghost use Rattle.lexopt_commands.specs.Wrappers.{argument_positional, command_line, rest_line};
-ghost use Rattle.lexopt_commands.specs.Wrappers.{rest_mark, rest_positional, rest_positionals};
-ghost use Rattle.lexopt_commands.specs.Wrappers.{text_before};
+ghost use Rattle.lexopt_commands.specs.Wrappers.{argument_positional, begins_with_dash};
+ghost use Rattle.lexopt_commands.specs.Wrappers.{command_line, rest_count, rest_line, rest_mark};
+ghost use Rattle.lexopt_commands.specs.Wrappers.{rest_positional, rest_positionals, text_before};
 
-use crate::read::begins_with_dash;
 use lexopt_declaration::declaration::{Count, Declaration, Positional, Words};
 use lexopt_declaration::help;
 use lexopt_declaration::lookup::help_names_of;
@@ -91,11 +91,36 @@ pub enum WrapperAnswer<'a, F, V = Infallible, P = Infallible, M = Infallible, S 
 
 // ---- the help
 
+// A positional without its key.
+fn shown<'a, P>(positional: &Positional<'a, P>) -> Positional<'a, ()>
+    ensures { positional_view result ≡ positional_view positional.now }
+{
+    Positional {
+        key: (),
+        placeholder: positional.placeholder,
+        count: positional.count,
+        help: positional.help,
+        words: positional.words,
+        hides_list: positional.hides_list,
+    }
+}
+
+// How often the rest occurs.
+fn rest_count(required: bool) -> Count
+    ensures { count_view result ≡ rest_count required }
+{
+    if required {
+        Count::Once
+    } else {
+        Count::AtMostOnce
+    }
+}
+
 // The placeholder of the rest in the usage line and in the help, such as `COMMAND` or `-- PATH...`.
 fn rest_mark(alloc: Global, rest: Rest<'_>) -> Result<String, AllocError>
     ensures { IfOk result (λ mark. string_bytes mark ≡ rest_mark rest.entry) }
 {
-    let placeholder = rest.placeholder;
+    let Rest { placeholder, .. } = rest;
     match rest.start {
         RestStart::Surplus => String::from_str(alloc, placeholder),
         RestStart::Separated => format!(in alloc; "-- {placeholder}..."),
@@ -109,11 +134,7 @@ fn rest_positional<'a>(mark: &'a str, rest: Rest<'a>) -> Positional<'a, ()>
     Positional {
         key: (),
         placeholder: mark,
-        count: if rest.required {
-            Count::Once
-        } else {
-            Count::AtMostOnce
-        },
+        count: rest_count(rest.required),
         help: rest.help,
         words: Words::Files,
         hides_list: false,
@@ -134,6 +155,21 @@ fn argument_positional() -> Positional<'static, ()>
     }
 }
 
+// The declared positionals, without their keys.
+fn declared_positionals<'a, P>(
+    alloc: Global,
+    positionals: &[Positional<'a, P>],
+) -> Result<Vec<Positional<'a, ()>>, AllocError>
+    ensures { IfOk result (λ all.
+        map positional_view all.items ≡ map positional_view positionals.now) }
+{
+    let mut all = Vec::new(alloc);
+    for positional in positionals {
+        all.push(shown(positional))?;
+    }
+    Ok(all)
+}
+
 // The declared positionals, without their keys, and those of the rest, with this placeholder.
 fn all_positionals<'a, P>(
     alloc: Global,
@@ -144,17 +180,7 @@ fn all_positionals<'a, P>(
     ensures { IfOk result (λ all. map positional_view all.items
         ≡ map positional_view positionals.now ++ rest_positionals mark.now rest.entry) }
 {
-    let mut all = Vec::new(alloc);
-    for positional in positionals {
-        all.push(Positional {
-            key: (),
-            placeholder: positional.placeholder,
-            count: positional.count,
-            help: positional.help,
-            words: positional.words,
-            hides_list: positional.hides_list,
-        })?;
-    }
+    let mut all = declared_positionals(alloc, positionals)?;
     all.push(rest_positional(mark, rest))?;
     match rest.start {
         RestStart::Surplus => all.push(argument_positional())?,
@@ -182,6 +208,29 @@ fn rest_line(alloc: Global, start: RestStart, count: usize) -> Result<String, Al
     }
 }
 
+// This text, and the line for a command line that begins with the word that is typed if this holds.
+fn with_command_line(alloc: Global, text: String, begins: bool) -> Result<String, AllocError>
+    ensures { IfOk result (λ all. string_bytes all
+        ≡ string_bytes text ++ (if begins then command_line 0 else [])) }
+{
+    if begins {
+        let line = command_line(alloc, 0)?;
+        format!(in alloc; "{text}{line}")
+    } else {
+        Ok(text)
+    }
+}
+
+// Whether a word that begins so can begin the rest, if one that is plain can.
+fn can_begin(begins_rest: bool, typed: &OsString) -> bool
+    ensures { result ≡ (begins_rest && not (begins_with_dash typed.now)) }
+{
+    match typed.as_bytes() {
+        [b'-', ..] => false,
+        _ => begins_rest,
+    }
+}
+
 // What can come where this is typed after words without a rest: this text, or the line for a rest that
 // can begin there.
 fn text_before(
@@ -195,12 +244,14 @@ fn text_before(
         string_bytes all ≡ text_before start (string_bytes text) begins typed.now) }
 {
     match start {
-        RestStart::Surplus if begins && !begins_with_dash(typed) => {
-            let line = command_line(alloc, 0)?;
-            format!(in alloc; "{text}{line}")
+        RestStart::Surplus => with_command_line(alloc, text, can_begin(begins, typed)),
+        RestStart::Separated => {
+            if begins {
+                String::from_str(alloc, "files\n")
+            } else {
+                Ok(text)
+            }
         }
-        RestStart::Separated if begins => String::from_str(alloc, "files\n"),
-        RestStart::Surplus | RestStart::Separated => Ok(text),
     }
 }
 

@@ -7,7 +7,7 @@ use Rattle.lexopt_line_spec.specs.Table.{Name, short, long}
 use Rattle.lexopt_options_spec.specs.Declaration as spec
 use Rattle.lexopt_options_spec.proofs.Tables.{name_is}
 use Rattle.lexopt_declaration.specs.declared.declaration.Names.{Names}
-use Rattle.lexopt_declaration.specs.declared.declaration.Names.TheVariants.{Short}
+use Rattle.lexopt_declaration.specs.declared.declaration.Names.TheVariants.{Short, Long, Both}
 
 own_names : (n : Names) → map short (option_to_list (short_name n)) ++ map long (option_to_list (long_name n)) ≡ names_list n
 own_names (Short c) = refl
@@ -23,11 +23,22 @@ any_alias : (name : Name) (aliases : List Names) → list_any (λ a. is_one_of (
 any_alias name [] = refl
 any_alias name (a ∷ more) = ap (λ b. is_one_of (names_list a) name || b) (any_alias name more) ∙ sym (list_any-append (is_name name) (names_list a) (flat_map names_list more))
 
+-- one of these further names, as `share` finds it
+shared_alias : (name : Name) (aliases : List Names) → list_any (λ a. is_one_of (names_list a) name || false) aliases ≡ list_any (λ a. is_one_of (names_list a) name) aliases
+shared_alias name [] = refl
+shared_alias name (a ∷ more) =
+    ap (λ b. b || list_any (λ x. is_one_of (names_list x) name || false) more) (or-false (is_one_of (names_list a) name))
+    ∙ ap (λ b. is_one_of (names_list a) name || b) (shared_alias name more)
+
 -- an option that does not have a name as its own has it if a further name is this one
 pub has_further : {F V M S : Type 0} (name : Name) (o : Declared F V M S) (own : Bool) → own ≡ is_one_of (names_list o.names) name → own ≡ false
     → list_any (λ a. is_one_of (names_list a) name) o.aliases.now ≡ has_name name (option_view o)
 has_further name o own is none =
     any_alias name o.aliases.now ∙ ap (λ b. b || is_one_of (flat_map names_list o.aliases.now) name) (sym none ∙ is) ∙ sym (either_has name o)
+
+pub has_other : {F V M S : Type 0} (name : Name) (o : Declared F V M S) (own : Bool) → own ≡ is_one_of (names_list o.names) name → own ≡ false
+    → list_any (λ a. is_one_of (names_list a) name || false) o.aliases.now ≡ has_name name (option_view o)
+has_other name o own is none = shared_alias name o.aliases.now ∙ has_further name o own is none
 
 -- ---- names that are text
 

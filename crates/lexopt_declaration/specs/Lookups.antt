@@ -2,26 +2,17 @@
 use Rattle.std.specs.Prelude.{ℕ, Bool, true, false, List, Option, Some, None, option_map, position}
 use Rattle.std.specs.Prelude.{slice_get}
 use Rattle.std.specs.List.{list_any}
-use Rattle.lexopt_line_spec.specs.Table as spec
-use Rattle.lexopt_line_spec.specs.Table.{long, short}
-use Rattle.lexopt_options_spec.specs.Declaration.{negated, share}
+use Rattle.lexopt_options_spec.specs.Declaration.{share}
 use Rattle.lexopt_declaration.specs.Models.{names_list}
 use Rattle.lexopt_declaration.specs.declared.declaration.Declared.{Declared}
 use Rattle.lexopt_declaration.specs.declared.declaration.Kind.{Kind}
 use Rattle.lexopt_declaration.specs.declared.declaration.Kind.TheVariants.{Help}
 use Rattle.lexopt_declaration.specs.declared.declaration.Names.{Names}
-use Rattle.lexopt_declaration.specs.declared.lookup.Name.{Name}
-use Rattle.lexopt_declaration.specs.declared.lookup.Name.TheVariants.{Long, Negated, Short}
 
 -- the names of the option at this index
 abbrev pub names_at : {F V M S : Type 0} → List (Declared F V M S) → Option ℕ → Option Names
 names_at options None = None
 names_at options (Some i) = option_map (λ o. o.names) (slice_get options i)
-
-abbrev pub name_view : Name → spec.Name
-name_view (Short c) = short c
-name_view (Long name) = long name.now
-name_view (Negated name) = long (negated name.now)
 
 -- one of the option's further names is one of these
 abbrev pub has_alias : {F V M S : Type 0} → Names → Declared F V M S → Bool

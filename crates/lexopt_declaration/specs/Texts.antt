@@ -1,6 +1,7 @@
 -- How messages and completions show what is declared. The source is `docs/formats.md`.
-use Rattle.std.specs.Prelude.{ℕ, List, [], ◌++◌, Option, Some, None, codes, encode_utf8, nat_lt}
-use Rattle.std.specs.Prelude.{◌==◌, ◌||◌, if◌then◌else◌, ◌∷◌, map}
+use Rattle.std.specs.Prelude.{ℕ, List, [], ◌++◌, Option, Some, None, codes, encode_utf8}
+use Rattle.std.specs.Prelude.{nat_lt, ◌==◌, ◌||◌, if◌then◌else◌}
+use Rattle.std.specs.Prelude.{◌∷◌, map}
 use Rattle.lexopt_spec.specs.Text.{escaped}
 use Rattle.lexopt_options_spec.specs.Help.{escaped_text, list_text}
 use Rattle.lexopt_declaration.specs.declared.declaration.Names.{Names}
@@ -21,11 +22,6 @@ help_line program (Some names) = codes "\nTry '"
 -- a name in quotes, with these dashes before it
 abbrev pub name_in_quotes : List ℕ → List ℕ → List ℕ
 name_in_quotes dashes name = codes "'" ++ (dashes ++ (escaped_text name ++ codes "'"))
-
--- a value of a list, or a name in quotes with these dashes before it
-abbrev pub in_list : Option (List ℕ) → List ℕ → List ℕ
-in_list None value = escaped_text value
-in_list (Some dashes) name = name_in_quotes dashes name
 
 -- which names may have been meant, each with these dashes before it
 abbrev pub hint_text : List ℕ → List (List ℕ) → List ℕ

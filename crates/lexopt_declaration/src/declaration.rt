@@ -267,8 +267,19 @@ impl<F: Copy, V: Copy, M: Copy, S: Copy> Clone for Declared<'_, F, V, M, S> {
 
     fn clone(&self) -> Result<Self, AllocError> {
         Ok(Declared {
+            names: self.names,
             kind: self.kind.clone()?,
-            ..*self
+            help: self.help,
+            details: self.details,
+            heading: self.heading,
+            hidden: self.hidden,
+            required: self.required,
+            default: self.default,
+            exclusive: self.exclusive,
+            words: self.words,
+            hides_list: self.hides_list,
+            aliases: self.aliases,
+            beside: self.beside,
         })
     }
 }
@@ -316,7 +327,11 @@ impl<P: Copy> Clone for Positional<'_, P> {
     fn clone(&self) -> Result<Self, AllocError> {
         Ok(Positional {
             key: self.key,
-            ..*self
+            placeholder: self.placeholder,
+            count: self.count,
+            help: self.help,
+            words: self.words,
+            hides_list: self.hides_list,
         })
     }
 }
@@ -429,7 +444,6 @@ fn option_is_text<F, V, M, S>(option: &Declared<'_, F, V, M, S>)
 }
 
 /// States that the names of these options are text. It does nothing, and compiles to nothing.
-#[tactic(auto, using(crate::proofs::Spelled::text_more, std::proofs::lemmas::List::take_all))]
 pub fn are_text<F, V, M, S>(options: &[Declared<'_, F, V, M, S>])
     ensures { AreText (map option_view options.now) }
 {

@@ -1,18 +1,18 @@
 //! The help of declared options, in the form that the GNU Coding Standards give `--help`, and laid
 //! out like that of `ls`. The file of this name in `lexopt_commands` adds the commands.
-ghost use Rattle.std.specs.Prelude.{◌≡◌, ◌≤◌, ◌+◌, ◌-◌, ◌∷◌, ◌++◌, ◌&&◌, [], List, ℕ, IfOk, OnOk};
-ghost use Rattle.std.specs.Prelude.{if◌then◌else◌, codes, is_none, length, map, nat_lt, not};
-ghost use Rattle.std.specs.Prelude.{option_map, string_bytes};
+ghost use Rattle.std.specs.Prelude.{◌≡◌, ◌≤◌, ◌+◌, ◌-◌, ◌∷◌, ◌++◌, ◌&&◌, ◌==◌, [], List, ℕ, IfOk, OnOk};
+ghost use Rattle.std.specs.Prelude.{if◌then◌else◌, codes, is_none, length, map, nat_lt, not, option_map};
+ghost use Rattle.std.specs.Prelude.{string_bytes};
 ghost use Rattle.std.specs.List.{AllZip, concat, flat_map, list_any, starts_with};
 ghost use Rattle.std.specs.Option.{is_some};
-ghost use Rattle.lexopt_options_spec.specs.Declaration.{listed};
 ghost use Rattle.lexopt_options_spec.specs.Legal as legal;
 ghost use Rattle.lexopt_options_spec.specs.Help as spec;
 ghost use Rattle.lexopt_options_spec.specs.Help.{IsEntry, IsHelp, IsOption, IsParagraph, IsUsage};
 ghost use Rattle.lexopt_options_spec.specs.Help.{IsUsageLine, Wraps};
-ghost use Rattle.lexopt_declaration.specs.Models.{arity_kind, arity_placeholder, beside_view};
-ghost use Rattle.lexopt_declaration.specs.Models.{detail_view, long_name, option_view};
-ghost use Rattle.lexopt_declaration.specs.Models.{positional_view, short_name, words_view};
+ghost use Rattle.lexopt_declaration.specs.Models.{arity_kind, arity_placeholder, beside_view, detail_view};
+ghost use Rattle.lexopt_declaration.specs.Models.{long_name};
+ghost use Rattle.lexopt_declaration.specs.Models.{option_view, positional_view, short_name};
+ghost use Rattle.lexopt_declaration.specs.Models.{words_view};
 ghost use Rattle.lexopt_declaration.specs.Declarations.{declaration_view};
 
 use crate::declaration::{Arity, Beside, Count, Declaration, Declared, Names, Positional, Words};
@@ -69,6 +69,17 @@ fn push_after_short(out: &mut String, arity: Arity<'_>) -> Result<(), AllocError
     }
 }
 
+// Adds what comes after the character of an option that has a long name.
+fn push_before_long(out: &mut String, arity: Arity<'_>) -> Result<(), AllocError>
+    ensures { IfOk result (λ _. string_bytes out.new ≡ string_bytes out.old
+        ++ spec.before_long (arity_kind arity.entry) (arity_placeholder arity.entry)) }
+{
+    match arity {
+        Arity::Optional(value) => write!(out, "[{value}]"),
+        Arity::Zero | Arity::One(_) | Arity::Several(_) => Ok(()),
+    }
+}
+
 // Adds what comes after the long name of an option.
 fn push_after_long(out: &mut String, arity: Arity<'_>) -> Result<(), AllocError>
     ensures { IfOk result (λ _. string_bytes out.new ≡ string_bytes out.old
@@ -100,6 +111,17 @@ fn push_long(
     push_after_long(out, arity)
 }
 
+// Adds what comes before a long name, if the option has no character.
+fn push_before_alone(out: &mut String, beside: Beside) -> Result<(), AllocError>
+    ensures { IfOk result (λ _. string_bytes out.new
+        ≡ string_bytes out.old ++ spec.before_alone (beside_view beside)) }
+{
+    match beside {
+        Beside::Flag(character) => write!(out, "-{character}, "),
+        Beside::Negation | Beside::Nothing => out.push_str("    "),
+    }
+}
+
 // Adds the label of an option.
 fn push_label(
     out: &mut String,
@@ -117,17 +139,12 @@ fn push_label(
             push_after_short(out, arity)
         }
         Names::Long(name) => {
-            match beside {
-                Beside::Flag(character) => write!(out, "-{character}, ")?,
-                Beside::Negation | Beside::Nothing => out.push_str("    ")?,
-            }
+            push_before_alone(out, beside)?;
             push_long(out, beside, name, arity)
         }
         Names::Both(character, name) => {
             write!(out, "-{character}")?;
-            if let Arity::Optional(value) = arity {
-                write!(out, "[{value}]")?;
-            }
+            push_before_long(out, arity)?;
             out.push_str(", ")?;
             push_long(out, beside, name, arity)
         }
@@ -238,6 +255,25 @@ fn push_beside(
     push_lines(out, first, others, limit, column)
 }
 
+// Adds a label, and these words beside it.
+fn push_labelled(
+    out: &mut String,
+    label: &str,
+    words: &[&str],
+    width: usize,
+) -> Result<(), AllocError>
+    ensures { IfOk result (λ _. (lines : List spec.Line)
+        × Wraps (width - spec.help_column width) (map (λ w. w.now) words.now) lines
+        × (string_bytes out.new
+        ≡ string_bytes out.old ++ spec.entry (spec.help_column width) label.now lines)) }
+{
+    let column = help_column(width);
+    out.push_str("  ")?;
+    out.push_str(label)?;
+    push_beside(out, label, words, width - column, column)?;
+    out.push('\n')
+}
+
 // Whether a text ends with a full stop.
 fn is_sentence(text: &str) -> bool
     ensures { result ≡ spec.is_sentence text.now }
@@ -245,35 +281,37 @@ fn is_sentence(text: &str) -> bool
     text.as_bytes().ends_with(b".")
 }
 
-// The help text, and the values in a list.
-fn with_values(alloc: Global, help: &str, values: &[&str]) -> Result<String, AllocError>
+// The help text, and the list if there is one.
+fn with_list(alloc: Global, help: &str, words: Words<'_>) -> Result<String, AllocError>
     ensures { IfOk result (λ text.
-        string_bytes text ≡ spec.with_list help.now (listed (map (λ v. v.now) values.now))) }
+        string_bytes text ≡ spec.with_list help.now (words_view words.entry)) }
 {
-    let values = Listed(values);
-    if help.is_empty() {
-        format!(in alloc; "one of {values}")
-    } else if is_sentence(help) {
-        format!(in alloc; "{help} One of {values}.")
-    } else {
-        format!(in alloc; "{help}: one of {values}")
+    match words {
+        Words::Files | Words::Directories | Words::Text => String::from_str(alloc, help),
+        Words::Listed(values) if help.is_empty() => format!(in alloc; "one of {}", Listed(values)),
+        Words::Listed(values) if is_sentence(help) => {
+            format!(in alloc; "{help} One of {}.", Listed(values))
+        }
+        Words::Listed(values) => format!(in alloc; "{help}: one of {}", Listed(values)),
     }
 }
 
-// The text of an entry: the help text, and the list if there is one, unless the help leaves it out.
+// The text of an entry: the help text, and the list unless the help leaves it out.
 fn told(alloc: Global, hides_list: bool, help: &str, words: Words<'_>) -> Result<String, AllocError>
     ensures { IfOk result (λ text.
         string_bytes text ≡ spec.told hides_list help.now (words_view words.entry)) }
 {
-    match words {
-        Words::Listed(values) if !hides_list => with_values(alloc, help, values),
-        Words::Files | Words::Directories | Words::Text | Words::Listed(_) => {
-            String::from_str(alloc, help)
-        }
+    if hides_list {
+        return String::from_str(alloc, help);
     }
+    with_list(alloc, help, words)
 }
 
 /// Adds an entry: a label, and this text beside it, wrapped to `width` columns.
+///
+/// # Errors
+///
+/// Returns `AllocError` if an allocation fails.
 pub fn push_described(
     out: &mut String,
     alloc: Global,
@@ -285,11 +323,43 @@ pub fn push_described(
         × (string_bytes out.new ≡ string_bytes out.old ++ text)) }
 {
     let words = words_of(alloc, help)?;
-    let column = help_column(width);
-    out.push_str("  ")?;
-    out.push_str(label)?;
-    push_beside(out, label, words.as_slice(), width - column, column)?;
-    out.push('\n')
+    push_labelled(out, label, words.as_slice(), width)
+}
+
+// Adds a heading, if there is one, on a line of its own after an empty line.
+fn push_heading(out: &mut String, heading: Option<&str>) -> Result<(), AllocError>
+    ensures { IfOk result (λ _. string_bytes out.new ≡ string_bytes out.old
+        ++ spec.heading_lines (option_map (λ text. text.now) heading.entry)) }
+{
+    match heading {
+        Some(heading) => write!(out, "\n{heading}:\n"),
+        None => Ok(()),
+    }
+}
+
+// The help text of an option: the longer one, unless there is none or the help is brief.
+fn chosen<'a>(detail: Detail, help: &'a str, details: Option<&'a str>) -> &'a str
+    ensures { result.now
+        ≡ spec.chosen (detail_view detail) help.now (option_map (λ text. text.now) details.entry) }
+{
+    match detail {
+        Detail::Full => details.unwrap_or(help),
+        Detail::Brief => help,
+    }
+}
+
+// Adds the default, if there is one.
+fn push_default(text: &mut String, default: Option<&str>) -> Result<(), AllocError>
+    ensures { IfOk result (λ _. string_bytes text.new
+        ≡ spec.with_default (string_bytes text.old) (option_map (λ value. value.now) default.entry)) }
+{
+    match default {
+        Some(value) => {
+            let value = Escaped(value);
+            write!(text, " [default: {value}]")
+        }
+        None => Ok(()),
+    }
 }
 
 // The text of the entry of an option.
@@ -301,15 +371,9 @@ fn option_text<F, V, M, S>(
     ensures { IfOk result (λ text. string_bytes text
         ≡ spec.option_text (detail_view detail) (option_view option.now)) }
 {
-    let help = match detail {
-        Detail::Full => option.details.unwrap_or(option.help),
-        Detail::Brief => option.help,
-    };
+    let help = chosen(detail, option.help, option.details);
     let mut text = told(alloc, option.hides_list, help, option.words)?;
-    if let Some(value) = option.default {
-        let value = Escaped(value);
-        write!(text, " [default: {value}]")?;
-    }
+    push_default(&mut text, option.default)?;
     Ok(text)
 }
 
@@ -325,9 +389,7 @@ fn push_option<F, V, M, S>(
         × IsOption (detail_view detail) width (option_view option.now) text
         × (string_bytes out.new ≡ string_bytes out.old ++ text)) }
 {
-    if let Some(heading) = option.heading {
-        write!(out, "\n{heading}:\n")?;
-    }
+    push_heading(out, option.heading)?;
     let mut label = String::new(alloc);
     push_label(&mut label, option.beside, option.names, option.kind.arity())?;
     let text = option_text(alloc, detail, option)?;
@@ -422,6 +484,10 @@ fn push_options_part(out: &mut String, entries: &str) -> Result<(), AllocError>
 
 /// Adds the entries of the options that have one, wrapped to `width` columns, with their headings.
 /// An empty line comes before them.
+///
+/// # Errors
+///
+/// Returns `AllocError` if an allocation fails.
 pub fn push_options<F, V, M, S>(
     out: &mut String,
     alloc: Global,
@@ -440,6 +506,10 @@ pub fn push_options<F, V, M, S>(
 
 /// Returns the entries of the positionals that have a help text with a word, or a list that the
 /// help shows, wrapped to `width` columns.
+///
+/// # Errors
+///
+/// Returns `AllocError` if an allocation fails.
 pub fn positional_entries<P>(
     alloc: Global,
     positionals: &[Positional<'_, P>],
@@ -463,18 +533,16 @@ pub fn positional_entries<P>(
         if words.is_empty() {
             continue;
         }
-        push_described(
-            &mut text,
-            alloc,
-            positional.placeholder,
-            told.as_str(),
-            width,
-        )?;
+        push_labelled(&mut text, positional.placeholder, words, width)?;
     }
     Ok(text)
 }
 
 /// Adds a paragraph, wrapped to `width` columns. Adds nothing if it has no word.
+///
+/// # Errors
+///
+/// Returns `AllocError` if an allocation fails.
 pub fn push_paragraph(
     out: &mut String,
     alloc: Global,
@@ -493,6 +561,10 @@ pub fn push_paragraph(
 }
 
 /// Adds a part of the help, after an empty line. Adds nothing if the part is empty.
+///
+/// # Errors
+///
+/// Returns `AllocError` if an allocation fails.
 pub fn push_apart(out: &mut String, part: &str) -> Result<(), AllocError>
     ensures { IfOk result (λ _.
         string_bytes out.new ≡ string_bytes out.old ++ spec.set_apart part.now) }
@@ -516,6 +588,10 @@ pub fn shown_epilogue<'a>(detail: Detail, epilogue: &'a [&'a str]) -> &'a [&'a s
 }
 
 /// Adds the paragraphs of the epilogue, each after an empty line, wrapped to `width` columns.
+///
+/// # Errors
+///
+/// Returns `AllocError` if an allocation fails.
 pub fn push_epilogue(
     out: &mut String,
     alloc: Global,
@@ -538,15 +614,15 @@ pub fn push_epilogue(
 // Whether an option is neither hidden nor required, and no other excludes it.
 fn is_voluntary<F, V, M, S>(option: &Declared<'_, F, V, M, S>) -> bool
     ensures { result ≡ (not option.now.hidden
-        && (not option.now.required && is_none (option_view option.now).exclusive)) }
+        && (not option.now.required && is_none option.now.exclusive)) }
 {
     !option.hidden && (!option.required && option.exclusive.is_none())
 }
 
 // Whether there is such an option among these.
 fn any_voluntary<F, V, M, S>(options: &[Declared<'_, F, V, M, S>]) -> bool
-    ensures { result ≡ list_any (λ o. not o.hidden
-        && (not o.required && is_none (option_view o).exclusive)) options.now }
+    ensures { result
+        ≡ list_any (λ o. not o.hidden && (not o.required && is_none o.exclusive)) options.now }
 {
     options.iter().any(|option| is_voluntary(option))
 }
@@ -585,10 +661,23 @@ fn push_mark(out: &mut String, names: Names<'_>, arity: Arity<'_>) -> Result<(),
     }
 }
 
+// An option with its value, as the usage line has it.
+fn option_mark<F, V, M, S>(
+    alloc: Global,
+    option: &Declared<'_, F, V, M, S>,
+) -> Result<String, AllocError>
+    ensures { IfOk result (λ text. string_bytes text
+        ≡ spec.option_mark (option_view option.now)) }
+{
+    let mut mark = String::new(alloc);
+    push_mark(&mut mark, option.names, option.kind.arity())?;
+    Ok(mark)
+}
+
 // Whether an option is not hidden, and is in this exclusive group.
 fn has_text<F, V, M, S>(option: &Declared<'_, F, V, M, S>, text: Option<&str>) -> bool
     ensures { result ≡ (not option.now.hidden && legal.are_same
-        (option_map (λ own. own.now) text.entry) (option_view option.now).exclusive) }
+        (option_map (λ own. own.now) text.entry) (option_map (λ own. own.now) option.now.exclusive)) }
 {
     !option.hidden && are_same(text, option.exclusive)
 }
@@ -596,7 +685,7 @@ fn has_text<F, V, M, S>(option: &Declared<'_, F, V, M, S>, text: Option<&str>) -
 // Whether there is such an option among these.
 fn any_has_text<F, V, M, S>(options: &[Declared<'_, F, V, M, S>], text: Option<&str>) -> bool
     ensures { result ≡ list_any (λ o. not o.hidden && legal.are_same
-        (option_map (λ own. own.now) text.entry) (option_view o).exclusive) options.now }
+        (option_map (λ own. own.now) text.entry) (option_map (λ own. own.now) o.exclusive)) options.now }
 {
     options.iter().any(|option| has_text(option, text))
 }
@@ -642,9 +731,9 @@ fn is_first_choice<F, V, M, S>(
     before: &[Declared<'_, F, V, M, S>],
     option: &Declared<'_, F, V, M, S>,
 ) -> bool
-    ensures { let text = (option_view option.now).exclusive in
-        result ≡ (not option.now.hidden && (is_some text && not (list_any
-        (λ o. not o.hidden && legal.are_same text (option_view o).exclusive) before.now))) }
+    ensures { let text = option_map (λ own. own.now) option.now.exclusive in
+        result ≡ (not option.now.hidden && (is_some option.now.exclusive && not (list_any
+        (λ o. not o.hidden && legal.are_same text (option_map (λ own. own.now) o.exclusive)) before.now))) }
 {
     !option.hidden && (option.exclusive.is_some() && !any_has_text(before, option.exclusive))
 }
@@ -684,9 +773,7 @@ fn add_required_marks<F, V, M, S>(
 {
     for declared in options {
         if is_demanded(declared) {
-            let mut mark = String::new(alloc);
-            push_mark(&mut mark, declared.names, declared.kind.arity())?;
-            marks.push(mark)?;
+            marks.push(option_mark(alloc, declared)?)?;
         }
     }
     Ok(())
@@ -721,6 +808,22 @@ fn add_positional_marks<P>(
     Ok(())
 }
 
+// The words of the generated usage line after the name of the program.
+fn marks_of<F, V, P, M, S>(
+    alloc: Global,
+    declaration: &Declaration<'_, F, V, P, M, S>,
+) -> Result<Vec<String>, AllocError>
+    ensures { IfOk result (λ marks. declaration.now.program.now ∷ map string_bytes marks.items
+        ≡ spec.usage_words (declaration_view declaration.now)) }
+{
+    let mut marks = Vec::new(alloc);
+    add_options_mark(alloc, &mut marks, declaration.options)?;
+    add_choices(alloc, &mut marks, declaration.options)?;
+    add_required_marks(alloc, &mut marks, declaration.options)?;
+    add_positional_marks(alloc, &mut marks, declaration.positionals)?;
+    Ok(marks)
+}
+
 // Borrows these texts.
 fn texts_of<'a>(alloc: Global, texts: &'a [String]) -> Result<Vec<&'a str>, AllocError>
     ensures { IfOk result (λ words. map (λ w. w.now) words.items ≡ map string_bytes texts.now) }
@@ -733,7 +836,6 @@ fn texts_of<'a>(alloc: Global, texts: &'a [String]) -> Result<Vec<&'a str>, Allo
 }
 
 // Adds a usage line of the name of the program and these words, without how it begins.
-#[tactic(auto, using(std::proofs::Common::append_assoc))]
 fn push_usage_line(
     out: &mut String,
     program: &str,
@@ -797,11 +899,7 @@ fn push_generated_usage<F, V, P, M, S>(
         × IsUsageLine width (spec.usage_words (declaration_view declaration.now)) line
         × (string_bytes out.new ≡ string_bytes out.old ++ line)) }
 {
-    let mut marks = Vec::new(alloc);
-    add_options_mark(alloc, &mut marks, declaration.options)?;
-    add_choices(alloc, &mut marks, declaration.options)?;
-    add_required_marks(alloc, &mut marks, declaration.options)?;
-    add_positional_marks(alloc, &mut marks, declaration.positionals)?;
+    let marks = marks_of(alloc, declaration)?;
     let words = texts_of(alloc, marks.as_slice())?;
     push_usage_line(out, declaration.program, words.as_slice(), width)
 }
@@ -827,6 +925,10 @@ fn push_usage<F, V, P, M, S>(
 
 /// Returns the usage, wrapped to `width` columns: one line or several, each with a line feed at its
 /// end.
+///
+/// # Errors
+///
+/// Returns `AllocError` if an allocation fails.
 pub fn usage<F, V, P, M, S>(
     alloc: Global,
     declaration: &Declaration<'_, F, V, P, M, S>,
@@ -841,6 +943,10 @@ pub fn usage<F, V, P, M, S>(
 }
 
 /// Returns the help, wrapped to `width` columns.
+///
+/// # Errors
+///
+/// Returns `AllocError` if an allocation fails.
 pub fn help<F, V, P, M, S>(
     alloc: Global,
     detail: Detail,

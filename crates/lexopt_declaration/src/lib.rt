@@ -3,8 +3,6 @@
 //! which shells complete lines. `lexopt_options` reads lines by it, and re-exports what a program
 //! needs.
 //!
-//! A call that returns an `AllocError` does so if an allocation fails.
-//!
 //! In the examples `rt` is a reference to the runtime that `main` gets, and `alloc` is
 //! `rt.alloc()`. The program has the enums `Flag`, `Value`, `Word`, `Maybe` and `Values`, whose
 //! variants are its keys.

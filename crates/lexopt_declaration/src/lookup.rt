@@ -6,8 +6,7 @@ ghost use Rattle.lexopt_line_spec.specs.Table as table;
 ghost use Rattle.lexopt_options_spec.specs.Declaration.{has_name, index_of, is_one_of, negated};
 ghost use Rattle.lexopt_options_spec.specs.Legal.{are_same};
 ghost use Rattle.lexopt_declaration.specs.Models.{names_list, option_view};
-ghost use Rattle.lexopt_declaration.specs.Lookups.{has_alias, help_names, is_help, name_view};
-ghost use Rattle.lexopt_declaration.specs.Lookups.{names_at};
+ghost use Rattle.lexopt_declaration.specs.Lookups.{has_alias, help_names, is_help, names_at};
 
 use crate::declaration::{Declared, Kind, Names};
 
@@ -18,13 +17,18 @@ pub fn has_alias<F, V, M, S>(option: &Declared<'_, F, V, M, S>, names: Names<'_>
     option.aliases.iter().any(|alias| names.shares(*alias))
 }
 
-// A name that is looked for.
-#[derive(Clone, Copy)]
-enum Name<'a> {
-    Short(char),
-    Long(&'a str),
-    // The negation of this long name, such as `no-color` for `color`.
-    Negated(&'a str),
+/// Returns whether the option has this character, as its own or as a further name.
+pub fn has_short<F, V, M, S>(option: &Declared<'_, F, V, M, S>, character: char) -> bool
+    ensures { result ≡ has_name (table.short character) (option_view option.now) }
+{
+    option.names.is_short(character) || has_alias(option, Names::Short(character))
+}
+
+// Whether the option has this long name, as its own or as a further one.
+fn has_long<F, V, M, S>(option: &Declared<'_, F, V, M, S>, name: &str) -> bool
+    ensures { result ≡ has_name (table.long name.now) (option_view option.now) }
+{
+    option.names.is_long(name) || has_alias(option, Names::Long(name))
 }
 
 // Whether a long name is the negation of the other: `no-`, and then that.
@@ -37,42 +41,25 @@ fn is_negation(own: &str, name: &str) -> bool
     }
 }
 
-// Whether one of these names is this one.
-#[inline(always)]
-fn is_one_of(names: Names<'_>, name: Name<'_>) -> bool
-    ensures { result ≡ is_one_of (names_list names.entry) (name_view name.entry) }
+// Whether one of these names is the negation of this long name.
+fn have_negation(names: Names<'_>, name: &str) -> bool
+    ensures { result ≡ is_one_of (names_list names.entry) (table.long (negated name.now)) }
 {
-    match name {
-        Name::Short(character) => names.is_short(character),
-        Name::Long(name) => names.is_long(name),
-        Name::Negated(name) => match names {
-            Names::Long(own) | Names::Both(_, own) => is_negation(own, name),
-            Names::Short(_) => false,
-        },
+    match names {
+        Names::Long(own) | Names::Both(_, own) => is_negation(own, name),
+        Names::Short(_) => false,
     }
 }
 
-// Whether one of these aliases is this name.
-#[inline(always)]
-fn is_alias(aliases: &[Names<'_>], name: Name<'_>) -> bool
-    ensures { result ≡ list_any (λ a. is_one_of (names_list a) (name_view name.entry)) aliases.now }
+// Whether a further name of the option is the negation of this long name.
+fn has_negation_alias<F, V, M, S>(option: &Declared<'_, F, V, M, S>, name: &str) -> bool
+    ensures { result ≡ list_any (λ a. is_one_of (names_list a) (table.long (negated name.now)))
+        option.now.aliases.now }
 {
-    aliases.iter().any(|alias| is_one_of(*alias, name))
-}
-
-// Whether the option has this name, as its own or as a further one.
-#[inline(always)]
-fn has<F, V, M, S>(option: &Declared<'_, F, V, M, S>, name: Name<'_>) -> bool
-    ensures { result ≡ has_name (name_view name.entry) (option_view option.now) }
-{
-    is_one_of(option.names, name) || is_alias(option.aliases, name)
-}
-
-/// Returns whether the option has this character, as its own or as a further name.
-pub fn has_short<F, V, M, S>(option: &Declared<'_, F, V, M, S>, character: char) -> bool
-    ensures { result ≡ has_name (table.short character) (option_view option.now) }
-{
-    has(option, Name::Short(character))
+    option
+        .aliases
+        .iter()
+        .any(|alias| have_negation(*alias, name))
 }
 
 /// Returns whether the option has the negation of this long name, such as `no-color` for `color`, as
@@ -80,16 +67,28 @@ pub fn has_short<F, V, M, S>(option: &Declared<'_, F, V, M, S>, character: char)
 pub fn has_negation<F, V, M, S>(option: &Declared<'_, F, V, M, S>, name: &str) -> bool
     ensures { result ≡ has_name (table.long (negated name.now)) (option_view option.now) }
 {
-    has(option, Name::Negated(name))
+    have_negation(option.names, name) || has_negation_alias(option, name)
 }
 
-// The index of the first option with this name.
-#[inline(always)]
-fn place_of<F, V, M, S>(options: &[Declared<'_, F, V, M, S>], name: Name<'_>) -> Option<usize>
+// The index of the first option with this character.
+fn place_of_short<F, V, M, S>(
+    options: &[Declared<'_, F, V, M, S>],
+    character: char,
+) -> Option<usize>
     ensures { result
-        ≡ position (λ o. has_name (name_view name.entry) (option_view o)) options.now }
+        ≡ position (λ o. has_name (table.short character) (option_view o)) options.now }
 {
-    options.iter().position(|option| has(option, name))
+    options
+        .iter()
+        .position(|option| has_short(option, character))
+}
+
+// The index of the first option with this long name.
+fn place_of_long<F, V, M, S>(options: &[Declared<'_, F, V, M, S>], name: &str) -> Option<usize>
+    ensures { result
+        ≡ position (λ o. has_name (table.long name.now) (option_view o)) options.now }
+{
+    options.iter().position(|option| has_long(option, name))
 }
 
 /// Returns the index of the option with this character, counted from 0; `None` if there is none.
@@ -99,14 +98,14 @@ pub fn index_of_short<F, V, M, S>(
 ) -> Option<usize>
     ensures { result ≡ index_of (map option_view options.now) (table.short character) }
 {
-    place_of(options, Name::Short(character))
+    place_of_short(options, character)
 }
 
 /// Returns the index of the option with this name, counted from 0; `None` if there is none.
 pub fn index_of_long<F, V, M, S>(options: &[Declared<'_, F, V, M, S>], name: &str) -> Option<usize>
     ensures { result ≡ index_of (map option_view options.now) (table.long name.now) }
 {
-    place_of(options, Name::Long(name))
+    place_of_long(options, name)
 }
 
 /// Returns the names of the option at this index.

@@ -65,6 +65,10 @@ fn push_on_one_line(text: &mut String, character: char) -> Result<(), AllocError
 }
 
 /// Adds a help text to `text`, on one line: with a blank for each control character of ASCII.
+///
+/// # Errors
+///
+/// Returns `AllocError` if an allocation fails.
 pub fn push_help(text: &mut String, help: &str) -> Result<(), AllocError>
     ensures { OnOk result (string_bytes text.new
         ≡ string_bytes text.old ++ flat_map on_one_line (chars help.now)) }

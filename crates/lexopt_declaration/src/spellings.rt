@@ -135,7 +135,10 @@ fn exclusive_at<'a, F, V, M, S>(
     ensures { option_map (λ own. own.now) result
         ≡ legal.exclusive_at (map option_view options.now) index }
 {
-    options.get(index)?.exclusive
+    match options.get(index) {
+        Some(option) => option.exclusive,
+        None => None,
+    }
 }
 
 // Whether the options at these indices exclude each other.
@@ -159,6 +162,10 @@ fn is_excluded<F, V, M, S>(
 
 /// Returns those spellings of options that are offered where something was typed, in order, without
 /// those of options that an option at one of these indices excludes.
+///
+/// # Errors
+///
+/// Returns `AllocError` if an allocation fails.
 pub fn spellings_of<'a, F, V, M, S>(
     alloc: Global,
     options: &[Declared<'a, F, V, M, S>],
@@ -192,6 +199,10 @@ fn add_word(found: &mut Vec<String>, word: String, typed: &[u8]) -> Result<(), A
 }
 
 /// Adds the values in a list, if there is one, that begin with what was typed.
+///
+/// # Errors
+///
+/// Returns `AllocError` if an allocation fails.
 pub fn add_values(
     alloc: Global,
     found: &mut Vec<String>,
@@ -202,6 +213,13 @@ pub fn add_values(
         ++ filter (λ s. starts_with nat_eq s typed.now) (spec.list_of (words_view words.entry))) }
 {
     add_joined(alloc, found, "", words, typed)
+}
+
+// The word with this value after `before`.
+fn joined_word(alloc: Global, before: &str, value: &str) -> Result<String, AllocError>
+    ensures { IfOk result (λ s. string_bytes s ≡ before.now ++ value.now) }
+{
+    format!(in alloc; "{before}{value}")
 }
 
 // Adds the words that have one of these values after `before`, and begin with what was typed.
@@ -217,14 +235,17 @@ fn add_joined_words(
         (map (λ v. before.now ++ v) (map (λ v. v.now) values.now))) }
 {
     for value in values {
-        let word = format!(in alloc; "{before}{value}")?;
-        add_word(found, word, typed)?;
+        add_word(found, joined_word(alloc, before, value)?, typed)?;
     }
     Ok(())
 }
 
 /// Adds the words that have a value in a list, if there is one, after `before`, and begin with what
 /// was typed.
+///
+/// # Errors
+///
+/// Returns `AllocError` if an allocation fails.
 pub fn add_joined(
     alloc: Global,
     found: &mut Vec<String>,

@@ -1,29 +1,36 @@
 -- What is offered after some words.
-use Rattle.lexopt_options.proofs.Common.{length-map, slice_get, slice_get_cases, ⊎_elim, append-nil, zero, suc, ◌≡◌, ◌≤◌, ℕ, Bool, true, false, List, [], ◌∷◌, ◌++◌, map, filter, length, Option, Some, None, Vec, nat_eq, option_map, refl, sym, ap}
+use Rattle.lexopt_options.proofs.Common.{append-nil, zero, suc, ◌≡◌, ◌≤◌, ℕ, Bool, true, false, List, [], ◌∷◌, ◌++◌, map, filter, length, Option, Some, None, Vec, nat_eq, option_map, refl, sym, ap}
 use Rattle.lexopt_options.proofs.Common.{subst, ◌∙◌, inl, inr, arith, Result, Ok, Err, IfOk, Contains, flat_map, starts_with, IsUtf8, ◌<◌, ◌==◌, ◌≢◌, encode_utf8, and_parts, eqb-true, false≢true}
 use Rattle.lexopt_options.proofs.Common.{filter-append, same_Some, slice_get_within, BeginsWith, dash, MeansFront, parsed_item, last_item, same_last, front_says, says_once, Says, Item, Name, AreText}
-use Rattle.lexopt_options.proofs.Common.{HasRole, IsJoined, IsOption, JoinsValue, is_offered, joined_at, list_of, listed_by, offered_values, spelling, texts, values_at, filled, Front, IsFront}
-use Rattle.lexopt_options.proofs.Common.{IsFrontOf, state_view, positional_words, words_at, declaration_of, options_of, long_name, option_view, positional_view, short_name, spelling_view, words_view}
-use Rattle.lexopt_options.proofs.Common.{AllocError, Options, Names, Global, Declaration, has_name, index_of, is_sound, CanCome, Opens, is_free, spellings_if, are_listable, known, option_there}
-use Rattle.lexopt_options.proofs.Common.{long_named, short_named, AreOffered, joined_values, values_so, word_values, words_so, IsDeclared, IsJoinedAt, IsRoleAt, seen_of}
-use Rattle.lexopt_options_spec.specs.Declaration.{Declared, Positional}
-use Rattle.lexopt_line_spec.specs.Spelling.{no_words, plain_word}
-use Rattle.lexopt_options_spec.proofs.Roles.{extends}
-use Rattle.lexopt_options_spec.proofs.Occurs.{AreNamed, occurs_accepted, occurs_open, occurs_taken}
-use Rattle.lexopt_declaration.specs.declared.spellings.Spelling.{Spelling}
-use Rattle.lexopt_options_spec.proofs.Offered.{completes_offered, offered_completes}
-use Rattle.lexopt_options.specs.declared.complete.Joined.{Joined}
-use Rattle.lexopt_options.specs.declared.complete.Role.{Role}
-use Rattle.lexopt_options.proofs.Fronts.{means_read, nowhere_comes}
-use Rattle.lexopt_options.proofs.Seen.{apart_free, free_apart}
-use Rattle.lexopt_options.proofs.Accepted.{view_there}
+use Rattle.lexopt_options.proofs.Common.{HasRole, IsJoined, IsOption, JoinsValue, is_offered, joined_at, list_of, listed_by, offered_values, spelling, texts, values_at, filled}
+use Rattle.lexopt_options.proofs.Common.{Front, IsFront, IsFrontOf, state_view}
+use Rattle.lexopt_options_spec.specs.Completion.{is_free, spellings_if}
+use Rattle.lexopt_options.proofs.Common.{positional_words, words_at, declaration_of, options_of, long_name, option_view, positional_view, short_name, spelling_view, words_view, AllocError, Options}
+use Rattle.lexopt_options.proofs.Common.{Names}
+use Rattle.std.specs.Global.{Global}
+use Rattle.lexopt_options_spec.specs.Declaration.{Declaration, Declared, has_name, index_of, is_sound}
 use Rattle.lexopt_options_spec.specs.Legal as legal
+use Rattle.lexopt_options_spec.proofs.Sound.{known, option_there}
+use Rattle.lexopt_line_spec.specs.Spelling.{no_words, plain_word}
 use Rattle.lexopt_line_spec.specs.Table as table
 use Rattle.lexopt_options_spec.specs.Completion as spec
+use Rattle.lexopt_options_spec.proofs.Roles.{extends}
+use Rattle.lexopt_options_spec.proofs.Occurs.{AreNamed, occurs_accepted, occurs_open, occurs_taken}
+use Rattle.lexopt_options_spec.specs.Declaration.{Positional, are_listable}
+use Rattle.lexopt_options_spec.proofs.Tables.{long_named, short_named}
+use Rattle.lexopt_declaration.specs.declared.spellings.Spelling.{Spelling}
 use Rattle.lexopt_declaration.specs.declared.declaration.Positional as rust_positional
 use Rattle.lexopt_declaration.specs.declared.declaration.Declared as rust
 use Rattle.lexopt_declaration.specs.declared.declaration.Names.TheVariants as names
+use Rattle.lexopt_options_spec.proofs.Offered.{completes_offered, offered_completes}
+use Rattle.lexopt_options.specs.Completions.{AreOffered, CanCome, Opens, joined_values, values_so, word_values, words_so}
+use Rattle.lexopt_options.specs.declared.complete.Joined.{Joined}
+use Rattle.lexopt_options.specs.declared.complete.Role.{Role}
 use Rattle.lexopt_options.specs.declared.complete.Role.TheVariants as role
+use Rattle.lexopt_options.specs.Roles.{IsDeclared, IsJoinedAt, IsRoleAt, seen_of}
+use Rattle.lexopt_options.proofs.Fronts.{means_read, nowhere_comes}
+use Rattle.lexopt_options.proofs.Seen.{apart_free, free_apart}
+use Rattle.lexopt_options.proofs.Accepted.{view_there}
 
 -- ---- a value in the word of its option
 
@@ -145,13 +152,6 @@ joined_declared d words typed i before joins = of joins.last joins.is (last_decl
     of : (s : legal.Parsed) → IsOption i s → IsDeclared (length d.options) (spec.role_of joins.others s) → i < length d.options
     of (legal.positional word) same within = absurd same
     of s same within = subst (λ n. n < length d.options) same within
-
--- so it is found
-pub never_past : {F V M S : Type 0} (options : List (rust.Declared F V M S)) (i : ℕ) → i < length (map option_view options) → None ≡ slice_get options i → ⊥
-never_past options i within none = ⊎_elim
-    (λ here. let e : None ≡ Some here.0 = none ∙ here.2 in cc)
-    (λ past. omega (arith, within, past.0, length-map options option_view))
-    (slice_get_cases options i).1
 
 -- ---- values in lists
 

@@ -1,30 +1,37 @@
 -- Words as the beginning of a line: what they mean, and what the next word is.
-use Rattle.lexopt_options.proofs.Common.{first_flag, first_one, first_optional, first_positional, ◌≡◌, ◌≢◌, ◌↔◌, ◌<◌, ◌+◌, ◌&&◌, ◌⊎◌, ℕ, Bool, IsTrue, true, false, not, is_none, position, get_or, slice_get, string_bytes, unwrap_or, List, [], ◌∷◌, ◌++◌, map}
+use Rattle.lexopt_options.proofs.Common.{◌≡◌, ◌≢◌, ◌↔◌, ◌<◌, ◌+◌, ◌&&◌, ◌⊎◌, ℕ, Bool, IsTrue, true, false, not, is_none, position, get_or, slice_get, string_bytes, unwrap_or, List, [], ◌∷◌, ◌++◌, map}
 use Rattle.lexopt_options.proofs.Common.{length, Option, Some, None, option_map, refl, sym, ap, subst, ◌∙◌, inl, inr, arith, Result, Ok, Err, IfOk, IsUtf8, false≢true, dash, BeginsWith, IsLine}
-use Rattle.lexopt_options.proofs.Common.{IsNormalIn, UnreadLine, pending, Next, Value, Kind, Name, Values, at_most_one, all, ReadsValues, ValuesEndBy, item_with, option_reply, start}
+use Rattle.lexopt_options.proofs.Common.{IsNormalIn, UnreadLine, pending, Next, OptionalStep, Value, Kind, Name, Values, at_most_one, all, ReadsValues, ValuesEndBy, item_with, option_reply, start}
 use Rattle.lexopt_options.proofs.Common.{refusal_reply, take_reply, kind_of, option_view, words_view, CanBeTaken, HasRole, IsJoined, IsOpen, IsOption, JoinsValue, value_of, Declaration, index_of}
 use Rattle.lexopt_options.proofs.Common.{is_sound, IsWithin, MeansFront, Parsed, accepts_at, are_accepted, counts, most, positional_count, positional_words, refused_value, LeadsNowhere, Leaves, Says}
 use Rattle.lexopt_options.proofs.Common.{leaves_anything, leaves_due, leaves_first, leaves_further, leaves_ended, role_in, state_at_end, not_empty, same_last, count_append, words_append, words_count}
-use Rattle.lexopt_options.proofs.Common.{append-nil, ValuesStep, Step, bound, step_line, Refusal, one_front, enough, CanCome, Opens, ReadsParsed, parsed_with, Front, State, and-true}
-use Rattle.lexopt_options.proofs.Common.{list_all-append, MissingValue, OutOfMemory, UnexpectedValue, Grows, grows_several, grows_single, values_lack}
-use Rattle.lexopt_options.proofs.Common.{Reached, closed_reached, end_leaves, first_due, nothing_reached, open_reached, value_due, front_says, says_front, never_open, nowhere_open, role_there}
-use Rattle.lexopt_options.proofs.Common.{says_once, then_some, AreSeen, is_noted_at, noted, IsFront, IsAfterName, IsLast, can_go_on, first_of, state_view}
-use Rattle.lexopt_base.specs.Pending.{is_joined}
-use Rattle.lexopt_options_spec.proofs.States.{open_there}
-use Rattle.lexopt_options.specs.declared.front.AfterName.{AfterName}
-use Rattle.lexopt_options.proofs.Accepted.{at_place, first_refused, first_there, none_cond, view_there, found_within, kind_there}
-use Rattle.lexopt_options.proofs.ReadNext.{unexpected_never, kind_of_index, more_within, no_count, option_item, option_parsed}
-use Rattle.lexopt_options.proofs.ReadKeys.{before_separator, option_with, seen_more, seen_same}
+use Rattle.lexopt_options.proofs.Common.{append-nil, Bor, ValuesStep, Step, bound, step_line, Refusal, one_front, enough, CanCome, Opens, kind_at, ReadsParsed, parsed_with, Front, State}
+use Rattle.std.proofs.Math.Bool.{and-true}
+use Rattle.std.proofs.lemmas.List.Folds.{list_all-append}
 use Rattle.lexopt_spec.specs.Steps as steps
 use Rattle.lexopt_spec.specs.Runs as calls
 use Rattle.lexopt_line_spec.specs.Table as table
+use Rattle.lexopt_base.specs.Pending.{is_joined}
+use Rattle.lexopt_base.specs.declared.refusal.Refusal.TheVariants.{MissingValue, OutOfMemory, UnexpectedValue}
 use Rattle.lexopt_declaration.specs.declared.declaration.Declared as rust
+use Rattle.lexopt_declaration.specs.declared.declaration.Kind as rust_kind
+use Rattle.lexopt_declaration.specs.declared.declaration.Kind.TheVariants as rust_kinds
 use Rattle.lexopt_options_spec.specs.Declaration as declared
 use Rattle.lexopt_options_spec.specs.Legal as legal
 use Rattle.lexopt_options_spec.specs.States as spec
-use Rattle.lexopt_options_spec.proofs.Growing.{is_joined as joined}
+use Rattle.lexopt_options_spec.proofs.Growing.{Grows, grows_flag, grows_one, grows_optional, grows_positional, grows_several, values_lack}
+use Rattle.lexopt_options_spec.proofs.Reached.{Reached, closed_reached, end_leaves, first_due, nothing_reached, open_reached, value_due}
+use Rattle.lexopt_options_spec.proofs.States.{front_says, says_front, never_open, nowhere_open, open_there, role_there, says_once}
+use Rattle.lexopt_options.specs.Reading.{AreSeen, is_noted_at, noted}
+use Rattle.lexopt_options.specs.States.{IsFront, IsAfterName, IsLast, can_go_on, first_of, index_if, state_view, with_index}
+use Rattle.lexopt_options.specs.declared.front.AfterName.{AfterName}
 use Rattle.lexopt_options.specs.declared.front.AfterName.TheVariants as after
 use Rattle.lexopt_options.specs.declared.front.State.TheVariants as state
+use Rattle.lexopt_options.proofs.Accepted.{at_place, first_refused, first_there, none_cond, view_there}
+use Rattle.lexopt_options.proofs.Keys.{found_within}
+use Rattle.lexopt_options.proofs.NoValue.{unexpected_never}
+use Rattle.lexopt_options.proofs.ReadKeys.{before_separator, option_with, seen_more, seen_same}
+use Rattle.lexopt_options.proofs.ReadNext.{kind_of_index, more_within, no_count, option_item, option_parsed}
 
 -- ---- what was read last
 
@@ -33,7 +40,7 @@ abbrev pub IsReadLast : List Parsed → Option (ℕ × List ℕ) → Type 0
 IsReadLast l None = (others : List Parsed) (last : Parsed) → l ≡ others ++ last ∷ [] → value_of last ≡ None
 IsReadLast l (Some found) = (others : List Parsed) × (last : Parsed) × (l ≡ others ++ last ∷ []) × IsOption found.0 last × (value_of last ≡ Some found.1)
 
-read_last : (l : List Parsed) (index : ℕ) (s : Parsed) (value : Option (List ℕ)) → IsOption index s → value_of s ≡ value → IsReadLast (l ++ s ∷ []) (option_map (λ v. (index, v)) value)
+read_last : (l : List Parsed) (index : ℕ) (s : Parsed) (value : Option (List ℕ)) → IsOption index s → value_of s ≡ value → IsReadLast (l ++ s ∷ []) (with_index index value)
 read_last l index s None is has = λ others last are. ap value_of (sym (same_last l others s last are).1) ∙ has
 read_last l index s (Some v) is has = (l, s, refl, is, has)
 
@@ -73,7 +80,7 @@ has_positional d s u v words more word accepted last going limit {seen} has next
     let count : positional_count (has.l ++ own ∷ []) ≡ positional_count has.l + 1 = count_append has.l (own ∷ []) in
     record {
       l = has.l ++ own ∷ [];
-      at = closed_reached d s u v has.l going (table.positional word) own has.at (grows_single _ u v _ (first_positional word v next) tt) refl (step_line calls.next u (steps.positional word) v has.at.upto.line next)
+      at = closed_reached d s u v has.l going (table.positional word) own has.at (grows_positional _ u v word next) refl (step_line calls.next u (steps.positional word) v has.at.upto.line next)
           (subst (λ n. IsWithin n (most d.positionals)) (sym count)
           (more_within (positional_count has.l) (most d.positionals) (λ full. room (limit_is ∙ full ∙ ap (λ n. Some n) (counted has))) has.at.upto.within));
       words_are = words_append has.l (own ∷ []) ∙ ap (λ ws. ws ++ word ∷ []) has.words_are ∙ sym more_is;
@@ -83,6 +90,10 @@ has_positional d s u v words more word accepted last going limit {seen} has next
     }
 
 -- ---- what is read of an option
+
+-- the kind of an option, as the calls for its values take it
+pub kind_here : {F V M S : Type 0} (options : List declared.Declared) (i : ℕ) (o : rust.Declared F V M S) (k : rust_kind.Kind F V M S) → slice_get options i ≡ Some (option_view o) → o.kind ≡ k → kind_of k ≡ kind_at options i
+kind_here options i o k at is = ap kind_of (sym is) ∙ sym (ap (λ x. unwrap_or (option_map (λ p. p.kind) x) table.flag) at)
 
 -- whether it accepts a value
 pub accepts_here : {F V M S : Type 0} (options : List declared.Declared) (i : ℕ) (o : rust.Declared F V M S) (value : List ℕ) → slice_get options i ≡ Some (option_view o)
@@ -96,18 +107,26 @@ all_accepted options i o values place at is =
     ap is_none (first_refused options i (option_view o) values (position (λ value. not (declared.accepts (words_view o.words) value)) values) at refl)
     ∙ first_there (λ value. not (declared.accepts (words_view o.words) value)) values ∙ ap is_none (sym is)
 
-pub first_is : (i : ℕ) (values : List (List ℕ)) → option_map (λ v. (i, v)) (value_of (legal.several i values)) ≡ first_of i values
+pub first_is : (i : ℕ) (values : List (List ℕ)) → value_of (legal.several i values) ≡ first_of values
 first_is i [] = refl
 first_is i (v ∷ values) = refl
 
--- an option with its values, by its kind
-pub values_read : {F V M S : Type 0} (d : Declaration) (i : ℕ) (o : rust.Declared F V M S) (k : Kind) (values : Values) (v w : UnreadLine) (own : Bool) (first : Option (ℕ × List ℕ)) (goes_on : Option ℕ) → slice_get d.options i ≡ Some (option_view o) → k ≡ kind_of o.kind
-    → ReadsValues k v values w → is_none (refused_value d.options (parsed_with i values)) ≡ own → option_map (λ value. (i, value)) (value_of (parsed_with i values)) ≡ first → then_some (can_go_on k (pending v)) i ≡ goes_on
-    → IsAfterName d i v (after.Values own first goes_on) w
-values_read d i o k values v w own first goes_on at is reads own_is first_is goes_is = (k, values, is ∙ kind_there d.options i o at, reads, own_is, first_is, goes_is)
+pub flag_here : {F V M S : Type 0} (options : List declared.Declared) (i : ℕ) (o : rust.Declared F V M S) → slice_get options i ≡ Some (option_view o)
+    → ((x : F) × (o.kind ≡ rust_kinds.Flag x)) ⊎ ((o.kind ≡ rust_kinds.Help) ⊎ ((o.kind ≡ rust_kinds.BriefHelp) ⊎ ((x : Bor (List ℕ)) × (o.kind ≡ rust_kinds.Version x)))) → table.flag ≡ kind_at options i
+flag_here options i o at (inl is) = kind_here options i o (rust_kinds.Flag is.0) at is.1
+flag_here options i o at (inr (inl is)) = kind_here options i o rust_kinds.Help at is
+flag_here options i o at (inr (inr (inl is))) = kind_here options i o rust_kinds.BriefHelp at is
+flag_here options i o at (inr (inr (inr is))) = kind_here options i o (rust_kinds.Version is.0) at is.1
+
+-- what a call returned
+pub taken_so : (v w : UnreadLine) (r x : Result (List ℕ) Refusal) → r ≡ x → Value v (take_reply r) w → Value v (take_reply x) w
+taken_so v w r x is step = subst (λ (y : Result (List ℕ) Refusal). Value v (take_reply y) w) is step
+
+pub maybe_so : (v w : UnreadLine) (r x : Option (List ℕ)) → r ≡ x → OptionalStep v (steps.maybe r) w → Step calls.optional v (steps.maybe x) w
+maybe_so v w r x is step = inl (subst (λ (y : Option (List ℕ)). OptionalStep v (steps.maybe y) w) is step)
 
 pub value_ends : (v w : UnreadLine) (r : Result (List ℕ) Refusal) (refused : Refusal) → r ≡ Err refused → Value v (take_reply r) w → ValuesEndBy table.one v (refusal_reply refused) w
-value_ends v w r refused is step = inr (calls.value, refl, subst (λ (x : Result (List ℕ) Refusal). Value v (take_reply x) w) is step)
+value_ends v w r refused is step = inr (calls.value, refl, taken_so v w r (Err refused) is step)
 
 pub several_ends : (v w : UnreadLine) (refused : Refusal) → (refused ≡ OutOfMemory) ⊎ ((n : ℕ) × Step (calls.values n) v (refusal_reply refused) w) → ValuesEndBy table.several v (refusal_reply refused) w
 several_ends v w refused (inl is) = inl (ap refusal_reply is)
@@ -129,15 +148,15 @@ value_lacks (Err e) x refused P is holds = tt
 
 pub grows : (t : table.Table) (u v w : UnreadLine) (name : Name) (k : Kind) (values : Values) → IsLine u → k ≡ table.kind t name → Next u (option_reply name) v → ReadsValues k v values w
     → Grows t u (item_with name values) (can_go_on k (pending v)) w
-grows t u v w name table.flag (at_most_one None) line is next reads = subst (Grows t u (table.option name None) false) (sym reads) (grows_single t u v _ (first_flag name v (sym is) next) tt)
-grows t u v w name table.one (at_most_one (Some word)) line is next reads = grows_single t u w _ (first_one name word v w (sym is) next reads) tt
-grows t u v w name table.optional (at_most_one value) line is next reads = grows_single t u w _ (first_optional name value v w (sym is) next reads) tt
+grows t u v w name table.flag (at_most_one None) line is next reads = subst (Grows t u (table.option name None) false) (sym reads) (grows_flag t u v name (sym is) next)
+grows t u v w name table.one (at_most_one (Some word)) line is next reads = grows_one t u v w name word (sym is) next reads
+grows t u v w name table.optional (at_most_one value) line is next reads = grows_optional t u v w name value (sym is) next reads
 grows t u v w name table.several (all values) line is next reads =
-    subst (λ b. Grows t u (item_with name (all values)) (not b) w) (same (pending v)) (grows_several t u v w name reads.0 values line (sym is) next reads.1 reads.2)
+    grows_several t u v w name reads.0 values (is_joined (pending v)) line (sym is) next reads.1 reads.2 (λ value has. ap is_joined has) (λ joins. value_in (pending v) joins)
   where
-    same : (found : Option (List ℕ × Bool)) → joined found ≡ is_joined found
-    same None = refl
-    same found = refl
+    value_in : (found : Option (List ℕ × Bool)) → is_joined found ≡ true → (value : List ℕ) × (found ≡ Some (value, true))
+    value_in None joins = absurd (false≢true joins)
+    value_in (Some (value, by_equals)) joins = (value, ap (λ b. Some (value, b)) joins)
 grows t u v w name k values line is next reads = absurd reads
 
 -- what is counted after an option
@@ -148,29 +167,37 @@ no_words : (index : ℕ) (values : Values) → positional_words (parsed_with ind
 no_words index (at_most_one value) = refl
 no_words index (all values) = refl
 
-reached_by : (d : Declaration) (s u v w : UnreadLine) (l : List Parsed) (going : Option ℕ) (name : Name) (index : ℕ) (k : Kind) (values : Values) (goes_on : Bool) → Reached d s l going u → index_of d.options name ≡ Some index
-    → Grows (declared.table d.options) u (item_with name values) (can_go_on k (pending v)) w → IsLine w → IsWithin (positional_count (l ++ parsed_with index values ∷ [])) (most d.positionals) → ReadsValues k v values w → can_go_on k (pending v) ≡ goes_on
-    → Reached d s (l ++ parsed_with index values ∷ []) (then_some goes_on index) w
-reached_by d s u v w l going name index k values false at found grow line within reads is =
+-- several values are a list
+abbrev IsKindOf : Kind → Values → Type 0
+IsKindOf table.several (at_most_one value) = ⊥
+IsKindOf k values = Unit {0}
+
+reached_by : (d : Declaration) (s u w : UnreadLine) (l : List Parsed) (going : Option ℕ) (name : Name) (index : ℕ) (k : Kind) (values : Values) (pending_is : Option (List ℕ × Bool)) (goes_on : Bool) → Reached d s l going u → index_of d.options name ≡ Some index
+    → Grows (declared.table d.options) u (item_with name values) (can_go_on k pending_is) w → IsLine w → IsWithin (positional_count (l ++ parsed_with index values ∷ [])) (most d.positionals) → IsKindOf k values → can_go_on k pending_is ≡ goes_on
+    → Reached d s (l ++ parsed_with index values ∷ []) (index_if goes_on index) w
+reached_by d s u w l going name index k values pending_is false at found grow line within fits is =
     closed_reached d s u w l going (item_with name values) (parsed_with index values) at (subst (λ b. Grows (declared.table d.options) u (item_with name values) b w) is grow) (option_item d name index values found) line within
-reached_by d s u v w l going name index table.several (all values) true at found grow line within reads is =
+reached_by d s u w l going name index table.several (all values) pending_is true at found grow line within fits is =
     open_reached d s u w l going name index values at (subst (λ b. Grows (declared.table d.options) u (table.many name values) b w) is grow) found line within
-reached_by d s u v w l going name index table.several (at_most_one value) true at found grow line within reads is = absurd reads
-reached_by d s u v w l going name index k values true at found grow line within reads is = absurd (false≢true is)
+reached_by d s u w l going name index table.several (at_most_one value) pending_is true at found grow line within fits is = absurd fits
+reached_by d s u w l going name index k values pending_is true at found grow line within fits is = absurd (false≢true is)
+
+fits : (k : Kind) (v w : UnreadLine) (values : Values) → ReadsValues k v values w → IsKindOf k values
+fits table.several v w (at_most_one value) reads = reads
+fits k v w values reads = tt
 
 -- one more option
-pub has_option : (d : Declaration) (s u v w : UnreadLine) (words : List (List ℕ)) (accepted own : Bool) (last : Option (ℕ × List ℕ)) (going : Option ℕ) (value : Option (ℕ × List ℕ)) (goes_on : Option ℕ) (name : Name) (index : ℕ) (seen more : List ℕ)
+pub has_option : (d : Declaration) (s u v w : UnreadLine) (words : List (List ℕ)) (accepted own : Bool) (last : Option (ℕ × List ℕ)) (going : Option ℕ) (value : Option (List ℕ)) (goes_on : Bool) (name : Name) (index : ℕ) (seen more : List ℕ)
     → is_sound d.options ≡ true → HasReached d s u words accepted last going seen → more ≡ noted (is_noted_at d.options index) index seen → Next u (option_reply name) v → index_of d.options name ≡ Some index → IsAfterName d index v (after.Values own value goes_on) w
-    → HasReached d s w words (accepted && own) value goes_on more × (bound w < bound u) × (w.ended ≡ false)
+    → HasReached d s w words (accepted && own) (with_index index value) (index_if goes_on index) more × (bound w < bound u) × (w.ended ≡ false)
 has_option d s u v w words accepted own last going value goes_on name index seen more sound has more_is next found (k, values, k_is, reads, own_is, value_is, goes_is) = (
   record {
     l = has.l ++ parsed ∷ [];
-    at = subst (λ g. Reached d s (has.l ++ parsed ∷ []) g w) goes_is
-        (reached_by d s u v w has.l going name index k values _ has.at found (grows (declared.table d.options) u v w name k values has.at.upto.line kind_so next reads) line within reads refl);
+    at = reached_by d s u w has.l going name index k values (pending v) goes_on has.at found (grows (declared.table d.options) u v w name k values has.at.upto.line kind_so next reads) line within (fits k v w values reads) goes_is;
     words_are = words_append has.l (parsed ∷ []) ∙ ap (λ ws. positional_words has.l ++ ws) (no_words index values) ∙ append-nil (positional_words has.l) ∙ has.words_are;
     accepted_is = accepted_more d.options has.l parsed ∙ ap (λ b. b && is_none (refused_value d.options parsed)) has.accepted_is ∙ ap (λ b. accepted && b) own_is;
     are_seen = subst (AreSeen d.options (has.l ++ parsed ∷ [])) (sym more_is) (seen_more d.options has.l seen index parsed (option_with index values) has.are_seen);
-    last_is = subst (IsReadLast (has.l ++ parsed ∷ [])) value_is (read_last has.l index parsed (value_of parsed) (option_with index values) refl);
+    last_is = read_last has.l index parsed value (option_with index values) value_is;
   },
   read.shorter,
   before_separator d (positional_count has.l) u w parsed has.at.upto.line read (no_count index values),
@@ -238,35 +265,35 @@ front_at_end d u v words front going sound has next state_is =
     last_so None l read means front_is = λ others x other. read others x (sym (means (others ++ x ∷ []) other))
     last_so (Some found) l read means front_is = (read.0, read.1, subst (MeansFront d words) read.2 front_is, read.3, read.4)
 
-lacks_so : (d : Declaration) (words : List (List ℕ)) (l : List Parsed) (going : Option ℕ) (u v w : UnreadLine) (name : Name) (index : ℕ) (lacks : State) → is_sound d.options ≡ true → Reached d (start d.short_equals words) l going u
-    → Next u (option_reply name) v → index_of d.options name ≡ Some index → IsAfterName d index v (after.Lacks lacks) w → Leaves d words l (state_view lacks)
-lacks_so d words l going u v w name index (state.Due i) sound at next found (same, k, none, empty) =
-    subst (λ (j : ℕ). Leaves d words l (spec.due j)) (sym same) (value_due d words l going u v name index sound at next found (sym (kind_of_index d.options name index sound found) ∙ k) none empty)
-lacks_so d words l going u v w name index (state.First i) sound at next found (same, k, none, empty) =
-    subst (λ (j : ℕ). Leaves d words l (spec.first j)) (sym same) (first_due d words l going u v name index sound at next found (sym (kind_of_index d.options name index sound found) ∙ k) none empty)
-lacks_so d words l going u v w name index other sound at next found lacks = absurd lacks
-
--- words after which a value is due mean nothing as a front
-pub lacks_front : (d : Declaration) (words : List (List ℕ)) (l : List Parsed) (index : ℕ) (v w : UnreadLine) (lacks : State) → IsAfterName d index v (after.Lacks lacks) w → Leaves d words l (state_view lacks) → (m : List Parsed) → MeansFront d words m → ⊥
-lacks_front d words l index v w (state.Due i) given (leaves_due j none more) m means = none m means
-lacks_front d words l index v w (state.First i) given (leaves_first j none more nor) m means = none m means
-lacks_front d words l index v w other given leaves m means = absurd given
+lacking : (d : Declaration) (words : List (List ℕ)) (front : Front) (l : List Parsed) (state : spec.State) → state_view front.state ≡ state → front.last ≡ None → Leaves d words l state → ((m : List Parsed) → MeansFront d words m → ⊥)
+    → IsWithin (positional_count l) (most d.positionals) → positional_words l ≡ front.words.items → are_accepted d.options l ≡ front.accepted → AreSeen d.options l front.seen.items → IsFront d words front
+lacking d words front l state state_is no_last leaves none within words_are accepted_is are_seen = record {
+  l = l;
+  leaves = subst (Leaves d words l) (sym state_is) leaves;
+  within = within;
+  words_are = words_are;
+  accepted_is = accepted_is;
+  are_seen = are_seen;
+  last_is = subst (IsLast d words) (sym no_last) (λ others last means. absurd (none (others ++ last ∷ []) means));
+}
 
 -- where an option lacks a value at the end of the words
 pub front_lacking : (d : Declaration) (u v w : UnreadLine) (words : List (List ℕ)) (front : Front) (last : Option (ℕ × List ℕ)) (going : Option ℕ) (name : Name) (index : ℕ) → is_sound d.options ≡ true
-    → HasReached d (start d.short_equals words) u front.words.items front.accepted last going front.seen.items → front.last ≡ None → Next u (option_reply name) v → index_of d.options name ≡ Some index
-    → IsAfterName d index v (after.Lacks front.state) w → IsFront d words front
-front_lacking d u v w words front last going name index sound has no_last next found lacks =
-    let leaves = lacks_so d words has.l going u v w name index front.state sound has.at next found lacks in
-    record {
-      l = has.l;
-      leaves = leaves;
-      within = has.at.upto.within;
-      words_are = has.words_are;
-      accepted_is = has.accepted_is;
-      are_seen = has.are_seen;
-      last_is = subst (IsLast d words) (sym no_last) (λ others other means. absurd (lacks_front d words has.l index v w front.state lacks leaves (others ++ other ∷ []) means));
-    }
+    → HasReached d (start d.short_equals words) u front.words.items front.accepted last going front.seen.items → front.last ≡ None → Next u (option_reply name) v → index_of d.options name ≡ Some index → (state_is : State) → front.state ≡ state_is
+    → IsAfterName d index v (after.Lacks state_is) w → IsFront d words front
+front_lacking d u v w words front last going name index sound has no_last next found (state.Due i) state_is (same, k, none, empty) =
+    let leaves = subst (λ (j : ℕ). Leaves d words has.l (spec.due j)) (sym same) (value_due d words has.l going u v name index sound has.at next found (sym (kind_of_index d.options name index sound found) ∙ k) none empty) in
+    lacking d words front has.l (spec.due i) (ap state_view state_is) no_last leaves (λ m. no_front_due leaves m) has.at.upto.within has.words_are has.accepted_is has.are_seen
+  where
+    no_front_due : {l : List Parsed} → Leaves d words l (spec.due i) → (m : List Parsed) → MeansFront d words m → ⊥
+    no_front_due (leaves_due j none more) m means = none m means
+front_lacking d u v w words front last going name index sound has no_last next found (state.First i) state_is (same, k, none, empty) =
+    let leaves = subst (λ (j : ℕ). Leaves d words has.l (spec.first j)) (sym same) (first_due d words has.l going u v name index sound has.at next found (sym (kind_of_index d.options name index sound found) ∙ k) none empty) in
+    lacking d words front has.l (spec.first i) (ap state_view state_is) no_last leaves (λ m. no_front_first leaves m) has.at.upto.within has.words_are has.accepted_is has.are_seen
+  where
+    no_front_first : {l : List Parsed} → Leaves d words l (spec.first i) → (m : List Parsed) → MeansFront d words m → ⊥
+    no_front_first (leaves_first j none more nor) m means = none m means
+front_lacking d u v w words front last going name index sound has no_last next found other state_is lacks = absurd lacks
 
 -- ---- what can come after words that mean this
 

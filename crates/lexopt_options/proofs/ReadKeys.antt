@@ -1,25 +1,27 @@
 -- One step of reading a line by keys.
-use Rattle.lexopt_options.proofs.Common.{UnreadLine, IsLine, LastOption, long_option, Reply, Next, NextStep, unexpected, found_as, RepliesWith, Found, asked_by, first_asked}
+use Rattle.lexopt_options.proofs.Common.{UnreadLine, IsLine, LastOption, no_option, short_option, long_option, Reply, Next, NextStep, unexpected, found_as, RepliesWith, Found, asked_by, first_asked}
 use Rattle.lexopt_options.proofs.Common.{parsed_before, enough, accepted_append, IsWithin, are_accepted, counts, most, occurs, parsed_item, positional_count, refused_value, IsOfOption, Stops}
 use Rattle.lexopt_options.proofs.Common.{Declared, option_reply, start, Kind, Name, Values, at_most_one, all, ReadsValues, Declaration, has, index_of, table, Options, RestStart, Separated, Surplus}
-use Rattle.lexopt_options.proofs.Common.{is_separated, declaration_of, options_of, positionals_of, AllFirst, AreParsedAs, HasKey, IsParsedAs, IsByKey, positional_keys, IsMistake, Positional}
-use Rattle.lexopt_options.proofs.Common.{IsOption, eq-eqb, eqb-true, false≢true, ◌≡◌, ◌↔◌, IsTrue, ◌≤◌, ◌+◌, ◌==◌, ◌||◌, ◌&&◌, ℕ, suc, Bool, Ok, Option, is_none, true, false, add-zero, List, [], ◌∷◌}
-use Rattle.lexopt_options.proofs.Common.{◌++◌, None, Some, length, refl, sym, ap, subst, ◌∙◌, arith, nothing_read, HasRead, HasStopped, StopsAtOption, AreSeen, IsReadByKey, ReadsParsed, is_noted_at}
-use Rattle.lexopt_options.proofs.Common.{noted, parsed_with, or-false, list_any-append, asked_of, kind_of, HasKind, slice_get, asked_at, IsInvalidValue}
-use Rattle.lexopt_line_spec.proofs.Exact.{next_same}
-use Rattle.lexopt_options_spec.proofs.PastSeparator.{option_open}
-use Rattle.lexopt_options.specs.declared.parsed.Parsed.{Parsed}
-use Rattle.lexopt_options.specs.declared.parsed.ByKey.{ByKey}
-use Rattle.lexopt_options.specs.declared.mistake.Mistake.{Mistake}
-use Rattle.lexopt_options.proofs.Accepted.{view_there, asked_is, asked_more, has_kind, kind_here, parsed_length, parsed_more}
-use Rattle.lexopt_options.proofs.ReadNext.{count_more, count_small, more_within, no_count, one_more, option_parsed}
-use Rattle.lexopt_declaration.specs.declared.declaration.Kind as rust
+use Rattle.lexopt_options.proofs.Common.{is_separated, declaration_of, options_of, positionals_of, kind_at, AllFirst, AreParsedAs, HasKey, IsParsedAs, IsByKey, positional_keys, IsMistake, Positional}
+use Rattle.lexopt_options.proofs.Common.{IsOption, eq-eqb, eqb-true, false≢true}
+use Rattle.std.proofs.Common.{◌≡◌, ◌↔◌, IsTrue, ◌≤◌, ◌+◌, ◌==◌, ◌||◌, ◌&&◌, ℕ, suc, Bool, Ok, Option, is_none, true, false, add-zero, List, [], ◌∷◌, ◌++◌, None, Some, length, refl, sym, ap, subst, ◌∙◌, arith}
 use Rattle.lexopt_spec.specs.Steps as steps
 use Rattle.lexopt_base.specs.declared.parser.Found.TheVariants as found
 use Rattle.lexopt_options_spec.specs.Legal as legal
+use Rattle.lexopt_line_spec.proofs.Exact.{next_same}
+use Rattle.lexopt_options_spec.proofs.Fronts.{nothing_read}
+use Rattle.lexopt_options_spec.proofs.PastSeparator.{option_open}
+use Rattle.lexopt_options.specs.declared.parsed.Parsed.{Parsed}
+use Rattle.lexopt_options.specs.declared.parsed.ByKey.{ByKey}
 use Rattle.lexopt_options_spec.specs.Stops as stops
+use Rattle.lexopt_options.specs.declared.mistake.Mistake.{Mistake}
+use Rattle.lexopt_options.specs.Reading.{HasRead, HasStopped, StopsAtOption, AreSeen, IsReadByKey, ReadsParsed, is_noted_at, noted, parsed_with}
 use Rattle.lexopt_options.specs.declared.parsed.Parsed.TheVariants as variant
 use Rattle.lexopt_options_spec.specs.Declaration as spec
+use Rattle.std.proofs.Math.Bool.{or-false}
+use Rattle.lexopt_options.proofs.Keys.{asked_more, parsed_length, parsed_more}
+use Rattle.lexopt_options.proofs.ReadNext.{count_more, count_small, more_within, no_count, one_more, option_parsed}
+use Rattle.std.proofs.lemmas.List.Folds.{list_any-append}
 
 pub at_start : {F V P M S : Type 0} (o : Options F V P M S) (begins : RestStart) (u : UnreadLine) {parsed : List (Parsed F V P M S)} {seen : List ℕ} → IsLine u → u.ended ≡ false → parsed ≡ [] → seen ≡ [] → HasRead o begins u u 0 seen parsed
 at_start {F} {V} {P} {M} {S} o begins u {parsed} {seen} line not none_parsed none_seen = subst (λ (xs : List (Parsed F V P M S)). HasRead o begins u u 0 seen xs) (sym none_parsed) (subst (λ (l : List ℕ). HasRead o begins u u 0 l []) (sym none_seen) (record {
@@ -152,38 +154,26 @@ option_is index (at_most_one value) = eq-eqb index index refl
 option_is index (all values) = eq-eqb index index refl
 
 -- an option with its values, and what it means
-pub read_so : {F V P M S : Type 0} (o : Options F V P M S) (count index : ℕ) (r : Declared F V M S) (u v w : UnreadLine) (name : Name) (k : rust.Kind F V M S) (values : Values) (t : ByKey F V P M S)
-    → slice_get (options_of o) index ≡ Some r → r.kind ≡ k → Next u (option_reply name) v → index_of (declaration_of o).options name ≡ Some index → ReadsValues (kind_of k) v values w
-    → (HasKind (options_of o) index k → asked_at (declaration_of o).options index ≡ asked_of k → IsByKey (options_of o) (parsed_with index values) t) → refused_value (declaration_of o).options (parsed_with index values) ≡ None
-    → IsReadByKey (declaration_of o) (options_of o) index count u (Ok t) w
-read_so o count index r u v w name k values t at is step found reads tells unrefused =
-    let has = has_kind (options_of o) index r k at is in
-    let k_is = kind_here (declaration_of o).options index r k (view_there (options_of o) index r at) is in (
-      parsed_with index values,
-      option_parsed (declaration_of o) count u v w name (kind_of k) index values o.sound k_is step found reads,
-      tells has (asked_is (options_of o) index k has),
-      no_count index values,
-      option_with index values,
-      unrefused,
-    )
+pub read_so : {F V P M S : Type 0} (o : Options F V P M S) (count : ℕ) (u v w : UnreadLine) (name : Name) (k : Kind) (index : ℕ) (values : Values) (t : ByKey F V P M S)
+    → k ≡ kind_at (declaration_of o).options index → Next u (option_reply name) v → index_of (declaration_of o).options name ≡ Some index → ReadsValues k v values w
+    → IsByKey (options_of o) (parsed_with index values) t → refused_value (declaration_of o).options (parsed_with index values) ≡ None → IsReadByKey (declaration_of o) (options_of o) index count u (Ok t) w
+read_so o count u v w name k index values t k_is step found reads tells unrefused =
+    (parsed_with index values, option_parsed (declaration_of o) count u v w name k index values o.sound k_is step found reads, tells, no_count index values, option_with index values, unrefused)
 
 -- an option with a value that it does not accept
-pub refused_so : {F V P M S : Type 0} (o : Options F V P M S) (index : ℕ) (r : Declared F V M S) (u v w : UnreadLine) (name : Name) (k : rust.Kind F V M S) (values : Values) (m : Mistake) (value : List ℕ)
-    → slice_get (options_of o) index ≡ Some r → r.kind ≡ k → Next u (option_reply name) v → index_of (declaration_of o).options name ≡ Some index → ReadsValues (kind_of k) v values w
-    → refused_value (declaration_of o).options (parsed_with index values) ≡ Some value → IsInvalidValue r value m → StopsAtOption (declaration_of o) u m
-refused_so o index r u v w name k values m value at is step found reads refused told =
-    let view = view_there (options_of o) index r at in
-    let k_is = kind_here (declaration_of o).options index r k view is in
-    record {
-      why = stops.invalid_value index value;
-      told = told (declaration_of o) index view;
-      of_option = tt;
-      kept = λ l. refl;
-      stops = λ l line. stops.not_accepted (parsed_with index values) index value w
-          (one_more (declaration_of o) u u w [] 0 (parsed_with index values) (nothing_read (declaration_of o) u line) refl
-          (option_parsed (declaration_of o) 0 u v w name (kind_of k) index values o.sound k_is step found reads))
-          (option_is index values) refused;
-    }
+pub refused_so : {F V P M S : Type 0} (o : Options F V P M S) (count : ℕ) (u v w : UnreadLine) (name : Name) (k : Kind) (index : ℕ) (values : Values) (m : Mistake) (value : List ℕ)
+    → k ≡ kind_at (declaration_of o).options index → Next u (option_reply name) v → index_of (declaration_of o).options name ≡ Some index → ReadsValues k v values w
+    → (refused_value (declaration_of o).options (parsed_with index values) ≡ Some value) × IsMistake (declaration_of o) m (stops.invalid_value index value)
+    → StopsAtOption (declaration_of o) u m
+refused_so o count u v w name k index values m value k_is step found reads refused = record {
+  why = stops.invalid_value index value;
+  told = refused.1;
+  of_option = tt;
+  kept = λ l. refl;
+  stops = λ l line. stops.not_accepted (parsed_with index values) index value w
+      (one_more (declaration_of o) u u w [] 0 (parsed_with index values) (nothing_read (declaration_of o) u line) refl (option_parsed (declaration_of o) 0 u v w name k index values o.sound k_is step found reads))
+      (option_is index values) refused.0;
+}
 
 -- there are at most as many positionals as things that are read
 pub count_within : {F V P M S : Type 0} (o : Options F V P M S) (begins : RestStart) (u v : UnreadLine) (count : ℕ) (seen : List ℕ) (parsed : List (Parsed F V P M S)) → HasRead o begins u v count seen parsed → count ≤ length parsed

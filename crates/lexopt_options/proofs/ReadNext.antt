@@ -3,22 +3,24 @@ use Rattle.lexopt_options.proofs.Common.{◌≡◌, ◌≢◌, ◌≤◌, ℕ, �
 use Rattle.lexopt_options.proofs.Common.{OptionalStep, optional_pending, optional_none, ReadsPositional, no_word_left, word_left, ReadsWord, no_word, reads_separator, reads_long, reads_cluster}
 use Rattle.lexopt_options.proofs.Common.{reads_positional, joined_value, equals_value, next_in_cluster, after_separator, next_word, Kind, Name, kind, Values, at_most_one, all, ReadsValues, item_with}
 use Rattle.lexopt_options.proofs.Common.{ReadsFirst, first_positional, first_flag, first_one, first_optional, first_several, option_reply, encode_utf8, get_or, false, true, MatchOption, unwrap_or}
-use Rattle.lexopt_options.proofs.Common.{slice_get-get_or, Contains-get_or, LastOption, long_option, Tail, rest, pending, pending_in, rest_of, refusal_reply, inl, inr, String, Global, string_bytes}
-use Rattle.lexopt_options.proofs.Common.{IsWithin, counts, most, positional_count, parsed_item, count_append, joined, same_within, ReadsUpTo, Stops, not_declared, unknown_option, step_line}
-use Rattle.lexopt_options.proofs.Common.{position-Some, kind_at, RepliesWith, IsMistake, ReadsParsed, StopsAtOption, UndeclaredNext, parsed_with, positional_falls, values_fall, IsHint, IsHinted}
-use Rattle.lexopt_options.proofs.Common.{ending, long_names, kind_of_name, found_as, next_reply, Declaration, has_name, index_of, is_sound, table, ValuesEndBy, MissingValue, UnexpectedValue, Reply}
-use Rattle.lexopt_options.proofs.Common.{missing, unexpected, ValuesStep, no_values, some_values, Call, Step, StepWithMemory, IsDue, value_reply, optional_reply, IsSome}
-use Rattle.lexopt_line_spec.proofs.ItemsRead.{one_more_item, option_given}
-use Rattle.lexopt_options_spec.specs.Declaration.{Declared, Positional}
-use Rattle.lexopt_options.specs.declared.mistake.Mistake.{Mistake}
-use Rattle.lexopt_line_spec.proofs.LastOption.{missing_names}
+use Rattle.lexopt_options.proofs.Common.{slice_get-get_or, Contains-get_or, Err, IfOk, Ok, Result, LastOption, no_option, short_option, long_option, Tail, rest, pending, pending_in, rest_of}
+use Rattle.lexopt_options.proofs.Common.{refusal_reply, inl, inr, String, Global, string_bytes, IsWithin, counts, most, positional_count, parsed_item, count_append, joined, same_within, ReadsUpTo}
+use Rattle.lexopt_options.proofs.Common.{Stops, not_declared, unknown_option, step_line, position-Some, kind_at, Found, Refusal, RepliesWith, IsMistake, ReadsParsed, StopsAtOption, UndeclaredNext}
+use Rattle.lexopt_options.proofs.Common.{parsed_with}
 use Rattle.lexopt_spec.specs.Steps as steps
 use Rattle.lexopt_spec.specs.Runs as calls
 use Rattle.lexopt_line_spec.specs.Table as spec
+use Rattle.lexopt_line_spec.proofs.Bounds.{positional_falls, values_fall}
+use Rattle.lexopt_line_spec.proofs.ItemsRead.{one_more_item, option_given}
+use Rattle.lexopt_options_spec.specs.Nearest.{IsHint, IsHinted, ending, long_names}
+use Rattle.lexopt_options_spec.proofs.Tables.{kind_of_name}
+use Rattle.lexopt_base.specs.Found.{found_as, advance_reply}
 use Rattle.lexopt_base.specs.declared.parser.Found.TheVariants as found
 use Rattle.lexopt_base.specs.declared.refusal.Refusal.TheVariants as refused
+use Rattle.lexopt_line_spec.proofs.ReplyKinds.{next_reply}
+use Rattle.lexopt_options_spec.specs.Declaration.{Declaration, Declared, Positional, has_name, index_of, is_sound, table}
 use Rattle.lexopt_options_spec.specs.Legal as legal
-use Rattle.lexopt_options_spec.specs.Stops as stops
+use Rattle.lexopt_options.specs.declared.mistake.Mistake.{Mistake}
 
 pub option_item : (d : Declaration) (name : Name) (index : ℕ) (values : Values) → index_of d.options name ≡ Some index → parsed_item d.options (item_with name values) ≡ Some (parsed_with index values)
 option_item d name index (at_most_one value) found = ap (option_map (λ i. legal.option i value)) found
@@ -63,6 +65,10 @@ option_parsed d count u v w name k index values sound k_is step found reads = re
   line = λ line. values_line k v w values reads (step_line calls.next u (option_reply name) v line step);
   within = λ within. same_within count (counts (parsed_with index values)) (most d.positionals) (no_count index values) within;
 }
+
+-- what a call returned
+pub answered : (u w : UnreadLine) (r x : Result Found Refusal) → RepliesWith Next u (advance_reply w.last r) w → r ≡ x → RepliesWith Next u (advance_reply w.last x) w
+answered u w r x h is = subst (λ (q : Result Found Refusal). RepliesWith Next u (advance_reply w.last q) w) is h
 
 -- after a short option, some bytes are the rest of its cluster
 pub short_rest : (u v : UnreadLine) (c : ℕ) → Next u (steps.short c) v → (bytes : List ℕ) × (v.tail ≡ rest_of bytes)
@@ -148,13 +154,17 @@ stops_there d u v short mistake next told =
     let stops = undeclared_stops d u v short next in
     record { why = unknown_option stops.0 v.tail; told = told; of_option = tt; kept = λ l. refl; stops = λ l line. stops.1 l }
 
-pub stops_at_short : (d : Declaration) (v : UnreadLine) (c : ℕ) (m : Mistake) → ((u : UnreadLine) → Next u (steps.short c) v → IsMistake d m (unknown_option (spec.short c) v.tail)) → (u : UnreadLine) → UndeclaredNext d u (Some c) v → StopsAtOption d u m
+pub stops_at_short : {E : Type 0} (d : Declaration) (v : UnreadLine) (c : ℕ) (r : Result Mistake E) → ((u : UnreadLine) → Next u (steps.short c) v → IfOk r (λ m. IsMistake d m (unknown_option (spec.short c) v.tail)))
+    → IfOk r (λ m. (u : UnreadLine) → UndeclaredNext d u (Some c) v → StopsAtOption d u m)
 unfolding undeclared_stops
-stops_at_short d v c m told u next = stops_there d u v (Some c) m next (told u next.0)
+stops_at_short d v c (Ok m) told = λ u next. stops_there d u v (Some c) m next (told u next.0)
+stops_at_short d v c (Err e) told = tt
 
-pub stops_at_long : (d : Declaration) (v : UnreadLine) (text : List ℕ) (m : Mistake) → ((n : List ℕ) → v.last ≡ long_option n → text ≡ n) → IsMistake d m (unknown_option (spec.long text) v.tail) → (u : UnreadLine) → UndeclaredNext d u None v → StopsAtOption d u m
+pub stops_at_long : {E : Type 0} (d : Declaration) (v : UnreadLine) (text : List ℕ) (r : Result Mistake E) → ((n : List ℕ) → v.last ≡ long_option n → text ≡ n)
+    → IfOk r (λ m. (left : Tail) → IsMistake d m (unknown_option (spec.long text) left)) → IfOk r (λ m. (u : UnreadLine) → UndeclaredNext d u None v → StopsAtOption d u m)
 unfolding undeclared_stops
-stops_at_long d v text m is told u next = stops_there d u v None m next (subst (λ (n : List ℕ). IsMistake d m (unknown_option (spec.long n) v.tail)) (is next.0 next.1) told)
+stops_at_long d v text (Ok m) is told = λ u next. stops_there d u v None m next (subst (λ (n : List ℕ). IsMistake d m (unknown_option (spec.long n) v.tail)) (is next.0 next.1) (told v.tail))
+stops_at_long d v text (Err e) is told = tt
 
 -- `next` never returns that a value is missing
 pub never_missing : (u v : UnreadLine) (o : Option (String Global)) → Next u (refusal_reply (refused.MissingValue o)) v → ⊥
@@ -203,46 +213,3 @@ count_small (s ∷ l) = let rest = count_small l in omega arith
 pub has_room : (ps : List Positional) (count : ℕ) → IsWithin (count + 1) (most ps) → 1 ≤ length ps
 has_room [] count room = absurd (omega (arith, room))
 has_room (p ∷ ps) count room = omega arith
-
--- ---- why an option that was just read has no value
-
-several_values : (n : ℕ) (u v : UnreadLine) (r : Reply) (o x : List ℕ) → r ≡ unexpected o x → ValuesStep n u r v → ⊥
-several_values n u v r o x is (no_values none p after) = let e : missing _ ≡ unexpected o x = sym p ∙ is in cc
-several_values n u v r o x is (some_values some p after) = let e : steps.items _ ≡ unexpected o x = sym p ∙ is in cc
-
--- a call for values never returns an unexpected value
-never_unexpected : (k : Kind) (call : Call) (u v : UnreadLine) (o x : List ℕ) → k ≢ spec.flag → IsDue k call → Step call u (unexpected o x) v → ⊥
-never_unexpected k call u v o x other due (inr refused) = let e : unexpected o x ≡ steps.no_memory = refused.reply_is in cc
-never_unexpected spec.flag call u v o x other due (inl step) = other refl
-never_unexpected spec.one call u v o x other due (inl step) = value_reply u v (unexpected o x) (subst (λ c. StepWithMemory c u (unexpected o x) v) due step)
-never_unexpected spec.optional call u v o x other due (inl step) = optional_reply u v (unexpected o x) (subst (λ c. StepWithMemory c u (unexpected o x) v) due step)
-never_unexpected spec.several call u v o x other due (inl step) =
-    several_values due.0 u v (unexpected o x) o x refl (subst (λ c. StepWithMemory c u (unexpected o x) v) due.1 step)
-
-pub unexpected_never : (k : Kind) (u v : UnreadLine) (o : String Global) (x : List ℕ) → k ≢ spec.flag → ValuesEndBy k u (refusal_reply (UnexpectedValue o x)) v → ⊥
-unexpected_never k u v o x other (inl is) = let e : unexpected (string_bytes o) x ≡ steps.no_memory = is in cc
-unexpected_never k u v o x other (inr r) = never_unexpected k r.0 u v (string_bytes o) x other r.1 r.2
-
-unnamed_never : (k : Kind) (u v w : UnreadLine) (name : Name) → Next u (option_reply name) v → ValuesEndBy k v (refusal_reply (MissingValue None)) w → ⊥
-unnamed_never k u v w name read (inl is) = let e : missing None ≡ steps.no_memory = is in cc
-unnamed_never k u v w name read (inr r) =
-    let named = missing_names k r.0 u v w name None read r.1 r.2 in
-    let e : None ≡ Some named.0 = named.1 in cc
-
--- the option has a name
-pub is_named : (k : Kind) (u v w : UnreadLine) (name : Name) (option : Option (String Global)) → Next u (option_reply name) v → ValuesEndBy k v (refusal_reply (MissingValue option)) w → IsSome option
-is_named k u v w name None read ends = absurd (unnamed_never k u v w name read ends)
-is_named k u v w name (Some option) read ends = refl
-
--- a value that is missing
-pub value_missing : (d : Declaration) (k : Kind) (u v w : UnreadLine) (name : Name) (index : ℕ) (option : String Global) (mistake : Mistake) → is_sound d.options ≡ true
-    → Next u (option_reply name) v → index_of d.options name ≡ Some index → k ≡ kind_at d.options index → ValuesEndBy k v (refusal_reply (MissingValue (Some option))) w
-    → IsMistake d mistake (stops.missing_value index (string_bytes option)) → StopsAtOption d u mistake
-value_missing d k u v w name index option mistake sound step found k_is (inl is) told = absurd (let e : missing (Some (string_bytes option)) ≡ steps.no_memory = is in cc)
-value_missing d k u v w name index option mistake sound step found k_is (inr r) told = record {
-  why = stops.missing_value index (string_bytes option);
-  told = told;
-  of_option = tt;
-  kept = λ l. refl;
-  stops = λ l line. stops.no_value name index (string_bytes option) r.0 v w step found (subst (λ (x : spec.Kind). IsDue x r.0) (k_is ∙ kind_of_index d.options name index sound found) r.1) r.2;
-}

@@ -4,17 +4,18 @@ use Rattle.lexopt_options.proofs.Common.{filter, Option, Some, None, slice_get, 
 use Rattle.lexopt_options.proofs.Common.{Contains-append_right, option_eq, cases_lt, eq-eqb, eqb-true, false≢true, or_parts, drop_all, drop_more, slice_get_cases, declaration_of, AreOwners}
 use Rattle.lexopt_options.proofs.Common.{CanBeTaken, CanOwn, IsAscending, IsWithin, most, positional_words, AreShares, AreTaken, ArePlaces, IsNotTaken, greedy, least, owners, refused_word, takes_at}
 use Rattle.lexopt_options.proofs.Common.{greedy_are_shares, places_are, some_places, places_spare, refused_take, slice_get_take, positional_view, words_view, Declared, Positional, Options, Words}
-use Rattle.lexopt_options.proofs.Common.{AllocError, IsMistake, AreParsedAs, parsed_words, CanSpare, Fits, has_list}
-use Rattle.lexopt_options.proofs.Given.{owner_within, places_some}
-use Rattle.lexopt_options.specs.declared.parsed.Parsed.{Parsed}
-use Rattle.lexopt_options.specs.declared.mistake.Mistake.{Mistake}
+use Rattle.lexopt_options.proofs.Common.{AllocError, IsMistake, AreParsedAs, parsed_words}
 use Rattle.lexopt_options_spec.specs.Declaration as spec
 use Rattle.lexopt_options_spec.specs.Legal as legal
+use Rattle.lexopt_options.proofs.Owners.{owner_within, places_some}
 use Rattle.lexopt_declaration.specs.declared.declaration.Words.TheVariants as words
+use Rattle.lexopt_options.specs.declared.parsed.Parsed.{Parsed}
 use Rattle.lexopt_options.specs.declared.parsed.Parsed.TheVariants as parsed
+use Rattle.lexopt_options.specs.declared.mistake.Mistake.{Mistake}
 use Rattle.lexopt_options_spec.specs.Stops as stops
 use Rattle.lexopt_options.specs.Keys as keys
 use Rattle.lexopt_options.specs.Taken as taken
+use Rattle.lexopt_options.specs.Taken.{CanSpare, Fits, has_list}
 
 -- ---- by the number of words that are not required
 
@@ -109,11 +110,21 @@ at_no_place ps places all rest later w n at is none =
     let past = no_place places n none in
     at ∙ ap (λ l. refused_word ps l rest) (drop_all n places past) ∙ sym (ap (λ l. refused_word ps l later) (drop_all (n + 1) places (omega (arith, past))))
 
--- the next word is accepted or not
-pub at_word : (ps : List spec.Positional) (places : List ℕ) (all rest later : List (List ℕ)) (w : List ℕ) (n i : ℕ) (b : Bool) → IsAt ps places all rest n → rest ≡ w ∷ later → slice_get places n ≡ Some i → takes_at ps i w ≡ b
-    → refused_word ps places all ≡ cond b (refused_word ps (drop (n + 1) places) later) (Some (i, w))
-at_word ps places all rest later w n i b at is here takes =
-    at ∙ ap (refused_word ps (drop n places)) is ∙ ap (λ l. refused_word ps l (w ∷ later)) (places_some places n i here) ∙ ap (λ (b : Bool). cond b (refused_word ps (drop (n + 1) places) later) (Some (i, w))) takes
+at_place : (ps : List spec.Positional) (places : List ℕ) (all rest later : List (List ℕ)) (w : List ℕ) (n i : ℕ) → IsAt ps places all rest n → rest ≡ w ∷ later → slice_get places n ≡ Some i
+    → refused_word ps places all ≡ cond (takes_at ps i w) (refused_word ps (drop (n + 1) places) later) (Some (i, w))
+at_place ps places all rest later w n i at is here = at ∙ ap (refused_word ps (drop n places)) is ∙ ap (λ l. refused_word ps l (w ∷ later)) (places_some places n i here)
+
+-- a word is accepted
+pub at_next : (ps : List spec.Positional) (places : List ℕ) (all rest later : List (List ℕ)) (w : List ℕ) (n i : ℕ) → IsAt ps places all rest n → rest ≡ w ∷ later → slice_get places n ≡ Some i → takes_at ps i w ≡ true
+    → IsAt ps places all later (n + 1)
+at_next ps places all rest later w n i at is here takes =
+    at_place ps places all rest later w n i at is here ∙ ap (λ (b : Bool). cond b (refused_word ps (drop (n + 1) places) later) (Some (i, w))) takes
+
+-- a word is not accepted
+pub at_refused : (ps : List spec.Positional) (places : List ℕ) (all rest later : List (List ℕ)) (w : List ℕ) (n i : ℕ) → IsAt ps places all rest n → rest ≡ w ∷ later → slice_get places n ≡ Some i → takes_at ps i w ≡ false
+    → refused_word ps places all ≡ Some (i, w)
+at_refused ps places all rest later w n i at is here takes =
+    at_place ps places all rest later w n i at is here ∙ ap (λ (b : Bool). cond b (refused_word ps (drop (n + 1) places) later) (Some (i, w))) takes
 
 -- ---- the words that were read by keys
 

@@ -1,21 +1,27 @@
 -- What the reading of a whole line means.
 use Rattle.lexopt_options.proofs.Common.{append_assoc, ◌≡◌, ◌≤◌, ◌<◌, ◌-◌, ℕ, suc, length, take, arith, true, false, List, [], ◌∷◌, ◌++◌, refl, sym, ap, subst, ◌∙◌, list_any, is_some, false≢true}
-use Rattle.lexopt_options.proofs.Common.{UnreadLine, Next, start, Declaration, is_sound, Means, are_accepted, most, positional_count, positional_words, AreTaken, IsNotTaken, least}
+use Rattle.lexopt_options.proofs.Common.{UnreadLine, Next, start, Declaration, is_sound, Means, MeansFront, are_accepted, most, positional_count, positional_words, AreTaken, IsNotTaken, least}
 use Rattle.lexopt_options.proofs.Common.{some_places, all_but_last, first_asked, ReadsUpTo, Stops, required_placeholder, Bor, Names, Options, Line, declaration_of, options_of, positionals_of}
-use Rattle.lexopt_options.proofs.Common.{AreParsedAs, asked_view, IsLineOf, IsLineRead, LineMeans, AreNames, IsMistake, has_list, has, words_count, one_front, whole_front, zero_within, IsFirstClash}
-use Rattle.lexopt_options.proofs.Common.{front_later, nothing_parsed, AreSeen, IsFirstUnseen, IsRight, IsWrong, AllSeen}
-use Rattle.lexopt_options.specs.declared.mistake.Mistake.{Mistake}
-use Rattle.lexopt_options.specs.declared.parsed.Parsed.{Parsed}
-use Rattle.lexopt_options.proofs.Accepted.{asked_here}
-use Rattle.lexopt_options.proofs.Seen.{as_read, required_noted, absent_apart, apart_so, clash_so, none_required}
-use Rattle.lexopt_options.proofs.TakenWords.{all_taken}
+use Rattle.lexopt_options.proofs.Common.{AreParsedAs, asked_view, IsLineOf, IsLineRead, LineMeans, AreNames, IsMistake, has_list}
 use Rattle.lexopt_spec.specs.Steps as steps
 use Rattle.lexopt_line_spec.specs.Spelling as spelling
+use Rattle.lexopt_options_spec.specs.Declaration.{has}
 use Rattle.lexopt_options_spec.specs.Legal as legal
+use Rattle.lexopt_options_spec.proofs.Taken.{words_count, zero_within}
 use Rattle.lexopt_options_spec.specs.Stops as stops
+use Rattle.lexopt_options_spec.specs.Stops.{IsFirstClash}
+use Rattle.lexopt_options_spec.proofs.Fronts.{front_later, nothing_parsed, one_front, whole_front}
+use Rattle.lexopt_options.specs.declared.mistake.Mistake.{Mistake}
 use Rattle.lexopt_options.specs.declared.mistake.Mistake.TheVariants as mistake
 use Rattle.lexopt_options.specs.declared.refused.Line.TheVariants as line
 use Rattle.lexopt_declaration.specs.declared.declaration.Declared as declared
+use Rattle.lexopt_options.specs.declared.parsed.Parsed.{Parsed}
+use Rattle.lexopt_options.proofs.Keys.{asked_here}
+use Rattle.lexopt_options.specs.Reading.{AreSeen, IsFirstUnseen, IsRight, IsWrong}
+use Rattle.lexopt_options.specs.Reading.{AllSeen}
+use Rattle.lexopt_options.proofs.Defaults.{as_read, required_noted}
+use Rattle.lexopt_options.proofs.Seen.{absent_apart, apart_so, clash_so, none_required}
+use Rattle.lexopt_options.proofs.TakenWords.{all_taken}
 
 counted_so : (d : Declaration) (l : List legal.Parsed) (words : List (List ℕ)) → positional_words l ≡ words → positional_count l ≡ length words
 counted_so d l words is = sym (words_count l) ∙ ap length is

@@ -5,10 +5,11 @@ use Rattle.std.specs.List.{Contains, flat_map, starts_with}
 use Rattle.lexopt_options_spec.specs.Declaration.{Declaration, Positional}
 use Rattle.lexopt_options_spec.specs.Completion as spec
 use Rattle.lexopt_options_spec.specs.Completion.{AreOwnersIn, Completes, HasRole, IsJoined, IsOpen}
-use Rattle.lexopt_options_spec.specs.Completion.{is_free, list_of, offered_values, spellings_if}
-use Rattle.lexopt_options_spec.specs.Completion.{words_at, CanBeTaken}
+use Rattle.lexopt_options_spec.specs.Completion.{is_free, list_of, offered_values}
+use Rattle.lexopt_options_spec.specs.Completion.{spellings_if, words_at}
 use Rattle.lexopt_options_spec.specs.Legal as legal
 use Rattle.lexopt_options_spec.specs.Legal.{are_accepted, positional_words}
+use Rattle.lexopt_options_spec.specs.Completion.{CanBeTaken}
 use Rattle.lexopt_declaration.specs.Models.{spelling_view, words_view}
 use Rattle.lexopt_options.specs.declared.complete.Completion.{Completion}
 use Rattle.lexopt_options.specs.declared.complete.Joined.{Joined}

@@ -6,10 +6,13 @@ pub mod Taken
 pub mod Messages
 pub mod Mistakes
 pub mod Lines
+pub mod States
 pub mod Begun
 pub mod RestLines
+pub mod Names
 pub mod Completions
 pub mod Roles
 pub mod Usage
 pub mod Answers
+pub mod Kinds
 pub mod RestStarts

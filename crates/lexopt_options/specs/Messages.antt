@@ -5,7 +5,13 @@ use Rattle.lexopt_options_spec.specs.Help.{escaped_text, list_text}
 use Rattle.lexopt_declaration.specs.Texts.{help_line, hint_text, names_text}
 use Rattle.lexopt_declaration.specs.declared.declaration.Names.{Names}
 use Rattle.lexopt_options.specs.declared.mistake.Mistake.{Mistake}
-use Rattle.lexopt_options.specs.declared.mistake.Mistake.TheVariants as mistake
+use Rattle.lexopt_options.specs.declared.mistake.Mistake.TheVariants.{UnknownOption}
+use Rattle.lexopt_options.specs.declared.mistake.Mistake.TheVariants.{UnexpectedValue, MissingValue}
+use Rattle.lexopt_options.specs.declared.mistake.Mistake.TheVariants.{InvalidArgument, InvalidValue}
+use Rattle.lexopt_options.specs.declared.mistake.Mistake.TheVariants.{UnexpectedArgument}
+use Rattle.lexopt_options.specs.declared.mistake.Mistake.TheVariants.{MissingArgument, MissingOption}
+use Rattle.lexopt_options.specs.declared.mistake.Mistake.TheVariants.{MissingCommand, UnknownCommand}
+use Rattle.lexopt_options.specs.declared.mistake.Mistake.TheVariants.{Exclusive, InvalidVariable}
 use Rattle.lexopt_options.specs.declared.mistake.OptionName.{OptionName}
 use Rattle.lexopt_options.specs.declared.mistake.OptionName.TheVariants.{Short, Long}
 
@@ -15,29 +21,29 @@ name_text (Short c) = codes "-" ++ escaped c
 name_text (Long name) = codes "--" ++ escaped_text (string_bytes name)
 
 abbrev pub message : Mistake → List ℕ
-message (mistake.UnknownOption name hints) = unexpected_option_message (name_text name)
+message (UnknownOption name hints) = unexpected_option_message (name_text name)
     ++ hint_text (codes "--") (map (λ hint. hint.now) hints.items)
-message (mistake.UnexpectedValue option value) = codes "unexpected argument for option '"
+message (UnexpectedValue option value) = codes "unexpected argument for option '"
     ++ (escaped_text (string_bytes option) ++ (codes "': " ++ visible value))
-message (mistake.MissingValue option placeholder) = codes "missing argument "
+message (MissingValue option placeholder) = codes "missing argument "
     ++ (escaped_text placeholder.now
     ++ (codes " for option '" ++ (escaped_text (string_bytes option) ++ codes "'")))
-message (mistake.InvalidValue option value values) = codes "invalid value " ++ (visible value
+message (InvalidValue option value values) = codes "invalid value " ++ (visible value
     ++ (codes " for '" ++ (names_text option
     ++ (codes "': one of " ++ list_text (map (λ own. escaped_text own.now) values.now)))))
-message (mistake.UnexpectedArgument word) = codes "unexpected argument " ++ visible word
-message (mistake.MissingArgument placeholder) = codes "missing argument " ++ escaped_text placeholder.now
-message (mistake.InvalidArgument placeholder word values) = codes "invalid argument " ++ (visible word
+message (UnexpectedArgument word) = codes "unexpected argument " ++ visible word
+message (MissingArgument placeholder) = codes "missing argument " ++ escaped_text placeholder.now
+message (InvalidArgument placeholder word values) = codes "invalid argument " ++ (visible word
     ++ (codes " for " ++ (escaped_text placeholder.now
     ++ (codes ": one of " ++ list_text (map (λ own. escaped_text own.now) values.now)))))
-message (mistake.MissingOption names) = codes "missing option '" ++ (names_text names ++ codes "'")
-message (mistake.Exclusive names others) = codes "options '" ++ (names_text names
+message (MissingOption names) = codes "missing option '" ++ (names_text names ++ codes "'")
+message (Exclusive names others) = codes "options '" ++ (names_text names
     ++ (codes "' and '" ++ (names_text others ++ codes "' cannot be used together")))
-message (mistake.MissingCommand names) =
+message (MissingCommand names) =
     codes "missing command: one of " ++ list_text (map (λ name. escaped_text name.now) names.items)
-message (mistake.UnknownCommand word rest hints) = codes "unknown command " ++ (visible word
+message (UnknownCommand word rest hints) = codes "unknown command " ++ (visible word
     ++ hint_text [] (map (λ hint. hint.now) hints.items))
-message (mistake.InvalidVariable name) = codes "invalid value of " ++ (escaped_text (string_bytes name)
+message (InvalidVariable name) = codes "invalid value of " ++ (escaped_text (string_bytes name)
     ++ (codes ": one of bash_source, bash_complete, zsh_source, zsh_complete, fish_source, "
     ++ codes "fish_complete"))
 

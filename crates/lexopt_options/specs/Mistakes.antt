@@ -1,7 +1,6 @@
 -- What is wrong with a line, as contracts see it.
 use Rattle.std.specs.Prelude.{◌≡◌, ℕ, List, Some, map, slice_get, string_bytes}
 use Rattle.std.specs.Borrow.{Bor}
-use Rattle.lexopt_line_spec.specs.Table.{Name, short, long}
 use Rattle.lexopt_spec.specs.UnreadLine.{Tail}
 use Rattle.lexopt_options_spec.specs.Declaration.{Declaration, Declared, Positional, listed}
 use Rattle.lexopt_options_spec.specs.Nearest.{IsHint}
@@ -9,15 +8,15 @@ use Rattle.lexopt_options_spec.specs.Stops as stops
 use Rattle.lexopt_options_spec.specs.Stops.{placeholder_at, required_placeholder}
 use Rattle.lexopt_declaration.specs.Models.{long_name, short_name}
 use Rattle.lexopt_declaration.specs.declared.declaration.Names.{Names}
+use Rattle.lexopt_options.specs.Names.{name_view}
 use Rattle.lexopt_options.specs.declared.mistake.Mistake.{Mistake}
-use Rattle.lexopt_options.specs.declared.mistake.Mistake.TheVariants as mistake
-use Rattle.lexopt_options.specs.declared.mistake.OptionName.{OptionName}
-use Rattle.lexopt_options.specs.declared.mistake.OptionName.TheVariants.{Short, Long}
-
--- a name that was typed
-abbrev pub name_view : OptionName → Name
-name_view (Short c) = short c
-name_view (Long name) = long (string_bytes name)
+use Rattle.lexopt_options.specs.declared.mistake.Mistake.TheVariants.{UnknownOption}
+use Rattle.lexopt_options.specs.declared.mistake.Mistake.TheVariants.{UnexpectedValue, MissingValue}
+use Rattle.lexopt_options.specs.declared.mistake.Mistake.TheVariants.{InvalidArgument, InvalidValue}
+use Rattle.lexopt_options.specs.declared.mistake.Mistake.TheVariants.{UnexpectedArgument}
+use Rattle.lexopt_options.specs.declared.mistake.Mistake.TheVariants.{MissingArgument, MissingOption}
+use Rattle.lexopt_options.specs.declared.mistake.Mistake.TheVariants.{MissingCommand, UnknownCommand}
+use Rattle.lexopt_options.specs.declared.mistake.Mistake.TheVariants.{Exclusive, InvalidVariable}
 
 -- the option at this index has these names
 abbrev pub AreNames : List Declared → ℕ → Names → Type 0
@@ -37,28 +36,28 @@ AreWords positionals index placeholder values = (p : Positional)
 
 -- this mistake is that of the definitions
 abbrev pub IsMistake : Declaration → Mistake → stops.Mistake → Type 0
-IsMistake d (mistake.UnknownOption name hints) m = (left : Tail)
+IsMistake d (UnknownOption name hints) m = (left : Tail)
     × (m ≡ stops.unknown_option (name_view name) left)
     × IsHint d.options (name_view name) left (map (λ hint. hint.now) hints.items)
-IsMistake d (mistake.UnexpectedValue option value) m =
+IsMistake d (UnexpectedValue option value) m =
     m ≡ stops.unexpected_value (string_bytes option) value
-IsMistake d (mistake.MissingValue option placeholder) m = (index : ℕ)
+IsMistake d (MissingValue option placeholder) m = (index : ℕ)
     × (m ≡ stops.missing_value index (string_bytes option))
     × (placeholder.now ≡ placeholder_at d.options index)
-IsMistake d (mistake.InvalidValue option value values) m = (index : ℕ)
+IsMistake d (InvalidValue option value values) m = (index : ℕ)
     × (m ≡ stops.invalid_value index value) × AreNames d.options index option
     × AreValues d.options index values.now
-IsMistake d (mistake.UnexpectedArgument word) m = m ≡ stops.unexpected_argument word
-IsMistake d (mistake.InvalidArgument placeholder word values) m = (index : ℕ)
+IsMistake d (UnexpectedArgument word) m = m ≡ stops.unexpected_argument word
+IsMistake d (InvalidArgument placeholder word values) m = (index : ℕ)
     × (m ≡ stops.invalid_argument index word)
     × AreWords d.positionals index placeholder.now values.now
-IsMistake d (mistake.MissingArgument placeholder) m = (count : ℕ) × (m ≡ stops.missing_argument count)
+IsMistake d (MissingArgument placeholder) m = (count : ℕ) × (m ≡ stops.missing_argument count)
     × (placeholder.now ≡ required_placeholder d.positionals count)
-IsMistake d (mistake.MissingOption names) m = (index : ℕ) × (m ≡ stops.missing_option index)
+IsMistake d (MissingOption names) m = (index : ℕ) × (m ≡ stops.missing_option index)
     × AreNames d.options index names
-IsMistake d (mistake.Exclusive names others) m = (index : ℕ) × (other : ℕ)
+IsMistake d (Exclusive names others) m = (index : ℕ) × (other : ℕ)
     × (m ≡ stops.exclusive_options index other) × AreNames d.options index names
     × AreNames d.options other others
-IsMistake d (mistake.MissingCommand names) m = ⊥
-IsMistake d (mistake.UnknownCommand word rest hints) m = ⊥
-IsMistake d (mistake.InvalidVariable name) m = ⊥
+IsMistake d (MissingCommand names) m = ⊥
+IsMistake d (UnknownCommand word rest hints) m = ⊥
+IsMistake d (InvalidVariable name) m = ⊥

@@ -8,7 +8,7 @@ use Rattle.lexopt_spec.specs.Steps as steps
 use Rattle.lexopt_spec.specs.Steps.{Next}
 use Rattle.lexopt_line_spec.specs.Readings.{ReadsFirst, option_reply, start}
 use Rattle.lexopt_line_spec.specs.Bound.{bound}
-use Rattle.lexopt_line_spec.specs.Table.{Item, Kind, Name, flag, short, long}
+use Rattle.lexopt_line_spec.specs.Table.{Item, Name, short, long}
 use Rattle.lexopt_line_spec.specs.Values.{Values, at_most_one, all}
 use Rattle.lexopt_options_spec.specs.Asking.{AskFor, first_asked, parsed_before}
 use Rattle.lexopt_options_spec.specs.Declaration as declared
@@ -37,10 +37,6 @@ use Rattle.lexopt_options.specs.declared.parsed.ByKey.{ByKey}
 use Rattle.lexopt_options.specs.Declarations.{declaration_of, options_of, positionals_of}
 use Rattle.lexopt_options.specs.Keys.{AllFirst, AreParsedAs, IsByKey, asked_view, positional_keys}
 use Rattle.lexopt_options.specs.Mistakes.{IsMistake}
-
--- how many values the option at an index has; none, as a flag, if there is no such option
-abbrev pub kind_at : List declared.Declared → ℕ → Kind
-kind_at options index = unwrap_or (option_map (λ o. o.kind) (slice_get options index)) flag
 
 -- an option with these values
 abbrev pub parsed_with : ℕ → Values → spec.Parsed

@@ -12,11 +12,16 @@ use Rattle.lexopt_options.specs.declared.complete.Role.TheVariants as role
 use Rattle.lexopt_options.specs.declared.front.Front.{Front}
 
 -- it is the same role, with the option instead of its index
+abbrev pub IsRole : {F V M S : Type 0} → List (Declared F V M S) → spec.Role → Role F V M S
+    → Type 0
+IsRole options (spec.value i) (role.Value option) = slice_get options i ≡ Some option.now
+IsRole options (spec.argument words) role.Argument = Unit {0}
+IsRole options r other = ⊥
+
 abbrev pub IsRoleAt : {F V M S : Type 0} → List (Declared F V M S) → Option spec.Role
     → Option (Role F V M S) → Type 0
 IsRoleAt options None None = Unit {0}
-IsRoleAt options (Some (spec.value i)) (Some (role.Value option)) = slice_get options i ≡ Some option.now
-IsRoleAt options (Some (spec.argument words)) (Some role.Argument) = Unit {0}
+IsRoleAt options (Some r) (Some found) = IsRole options r found
 IsRoleAt options r found = ⊥
 
 -- the option at this index, and what comes before its value in a word; or neither

@@ -2,11 +2,11 @@
 use Rattle.std.specs.Prelude.{◌≡◌, ◌≤◌, ◌+◌, ◌-◌, ℕ, Bool, true, false, List, Option, Some, None}
 use Rattle.std.specs.Prelude.{IfSome, length, map, slice_get}
 use Rattle.std.specs.Option.{MatchOption}
-use Rattle.lexopt_options_spec.specs.Declaration.{Declaration, Positional}
+use Rattle.lexopt_options_spec.specs.Declaration.{Declaration, Positional, accepts}
 use Rattle.lexopt_options_spec.specs.Legal.{IsWithin, most}
 use Rattle.lexopt_options_spec.specs.Places.{greedy, least, owners, refused_word, takes_at}
 use Rattle.lexopt_options_spec.specs.Stops as stops
-use Rattle.lexopt_declaration.specs.Models.{positional_view}
+use Rattle.lexopt_declaration.specs.Models.{positional_view, words_view}
 use Rattle.lexopt_declaration.specs.declared.declaration.Positional as rust
 use Rattle.lexopt_declaration.specs.declared.declaration.Words.{Words}
 use Rattle.lexopt_declaration.specs.declared.declaration.Words.TheVariants.{Listed}
@@ -27,7 +27,15 @@ IsInvalid positionals index word mistake = (d : Declaration)
     → d.positionals ≡ map positional_view positionals
     → IsMistake d mistake (stops.invalid_argument index word)
 
--- the positional at this index accepts the word; otherwise this is the mistake that it does not
+-- the positional accepts the word; otherwise, wherever it is declared, this is the mistake that it
+-- does not
+abbrev pub IsRefusal : {P : Type 0} → rust.Positional P → List ℕ → Option Mistake → Type 0
+IsRefusal p word found = MatchOption found (accepts (words_view p.words) word ≡ true)
+    (λ mistake. (accepts (words_view p.words) word ≡ false)
+    × ((d : Declaration) (i : ℕ) → slice_get d.positionals i ≡ Some (positional_view p)
+    → IsMistake d mistake (stops.invalid_argument i word)))
+
+-- the same for the positional at this index
 abbrev pub IsRefusalAt : {P : Type 0} → List (rust.Positional P) → ℕ → List ℕ → Option Mistake → Type 0
 IsRefusalAt positionals index word found = MatchOption found
     (takes_at (map positional_view positionals) index word ≡ true)

@@ -1,21 +1,12 @@
 //! What a program has to do about its command line or about the request of a shell: do its own
 //! work, print a text, or refuse the line.
-ghost use Rattle.std.specs.Prelude.{◌≡◌, ◌++◌, Bool, IfOk, OnOk, false, option_map, string_bytes};
-ghost use Rattle.std.specs.Prelude.{unwrap_or, ℕ, List, Option};
+ghost use Rattle.std.specs.Prelude.{◌≡◌, ◌++◌, IfOk, OnOk, string_bytes};
 ghost use Rattle.std.specs.List.{flat_map, list_any};
 ghost use Rattle.lexopt_declaration.specs.Models.{spelling_view};
-ghost use Rattle.lexopt_declaration.specs.declared.declaration.Words as rust;
-ghost use Rattle.lexopt_options.specs.Answers.{IsWidth, are_at, are_directories, are_files};
-ghost use Rattle.lexopt_options.specs.Answers.{arguments_line, completion_text, joined_line};
+ghost use Rattle.lexopt_options.specs.Answers.{IsWidth, completion_text, joined_line};
+ghost use Rattle.lexopt_options.specs.Answers.{are_at, are_directories, are_files, arguments_line};
 ghost use Rattle.lexopt_options.specs.Answers.{listed_line, names_line, spelling_line};
-ghost use Rattle.lexopt_options.specs.Answers.{spelling_lines, word_line, IsAskedText};
-ghost use Rattle.lexopt_options.specs.Answers.{IsCompletionText, IsUnknownRequest, script_lines};
-ghost use Rattle.lexopt_options.specs.Answers.{IsAnswer, IsRequestAnswer};
-ghost use Rattle.lexopt_options.specs.Declarations.{declaration_of};
-ghost use Rattle.lexopt_options.specs.Keys.{asked_view};
-ghost use Rattle.lexopt_options.specs.Begun.{IsFrontOf};
-ghost use Rattle.lexopt_options.specs.Requests.{IsRequest};
-ghost use Rattle.lexopt_options.specs.declared.request.Request.{Request};
+ghost use Rattle.lexopt_options.specs.Answers.{spelling_lines, value_line, word_line};
 
 use crate::complete::{Completion, Joined, Role};
 use crate::front::Front;
@@ -59,15 +50,23 @@ fn names_line(words: Words<'_>) -> &'static str
     }
 }
 
-// What completes the words of the positional at this index, if there is one.
-#[tactic(auto, using(crate::proofs::Accepted::at_place))]
-fn words_at<'a, P>(positionals: &[Positional<'a, P>], index: usize) -> Option<Words<'a>>
-    ensures { (are : rust.Words → Bool)
-        → are_at are positionals.now index ≡ unwrap_or (option_map are result) false }
+// Whether the words of the positional at this index are completed by the names of files.
+fn is_of_files<P>(positionals: &[Positional<'_, P>], index: usize) -> bool
+    ensures { result ≡ are_at are_files positionals.now index }
 {
     match positionals.get(index) {
-        Some(positional) => Some(positional.words),
-        None => None,
+        Some(positional) => matches!(positional.words, Words::Files),
+        None => false,
+    }
+}
+
+// Whether the words of the positional at this index are completed by the names of directories.
+fn is_of_directories<P>(positionals: &[Positional<'_, P>], index: usize) -> bool
+    ensures { result ≡ are_at are_directories positionals.now index }
+{
+    match positionals.get(index) {
+        Some(positional) => matches!(positional.words, Words::Directories),
+        None => false,
     }
 }
 
@@ -75,7 +74,9 @@ fn words_at<'a, P>(positionals: &[Positional<'a, P>], index: usize) -> Option<Wo
 fn any_of_files<P>(positionals: &[Positional<'_, P>], arguments: &[usize]) -> bool
     ensures { result ≡ list_any (λ i. are_at are_files positionals.now i) arguments.now }
 {
-    arguments.iter().any(|index| matches!(words_at(positionals, *index), Some(Words::Files)))
+    arguments
+        .iter()
+        .any(|index| is_of_files(positionals, *index))
 }
 
 // Whether the words of a positional at one of these indices are completed by the names of
@@ -83,7 +84,9 @@ fn any_of_files<P>(positionals: &[Positional<'_, P>], arguments: &[usize]) -> bo
 fn any_of_directories<P>(positionals: &[Positional<'_, P>], arguments: &[usize]) -> bool
     ensures { result ≡ list_any (λ i. are_at are_directories positionals.now i) arguments.now }
 {
-    arguments.iter().any(|index| matches!(words_at(positionals, *index), Some(Words::Directories)))
+    arguments
+        .iter()
+        .any(|index| is_of_directories(positionals, *index))
 }
 
 // The line that tells a shell which names complete a word that can belong to the positionals at
@@ -152,24 +155,32 @@ fn push_typed(
     push_spellings(text, spellings)
 }
 
-// Adds the line that tells a shell which names complete the value that is typed in the word, if there
-// is one, and what comes before the value.
+// Adds the line that tells a shell which names complete a value, and what comes before the value in
+// its word.
+fn push_names(text: &mut String, words: Words<'_>, before: &str) -> Result<(), AllocError>
+    ensures { OnOk result (string_bytes text.new
+        ≡ string_bytes text.old ++ value_line words.entry before.now) }
+{
+    match words {
+        Words::Files => text.push_str("files\t")?,
+        Words::Directories => text.push_str("directories\t")?,
+        Words::Text | Words::Listed(_) => return Ok(()),
+    }
+    text.push_str(before)?;
+    text.push('\n')
+}
+
+// Adds the line for the option whose value is typed in the word, if there is one.
 fn push_joined<F, V, M, S>(
     text: &mut String,
     joined: &Option<Joined<'_, F, V, M, S>>,
 ) -> Result<(), AllocError>
     ensures { OnOk result (string_bytes text.new ≡ string_bytes text.old ++ joined_line joined.now) }
 {
-    let Some(joined) = joined else {
-        return Ok(());
-    };
-    match joined.option.words {
-        Words::Files => text.push_str("files\t")?,
-        Words::Directories => text.push_str("directories\t")?,
-        Words::Text | Words::Listed(_) => return Ok(()),
+    match joined {
+        Some(joined) => push_names(text, joined.option.words, joined.before.as_str()),
+        None => Ok(()),
     }
-    text.push_str(joined.before.as_str())?;
-    text.push('\n')
 }
 
 // Adds a line for a value in a list, after `+` unless it begins with a dash.
@@ -244,7 +255,13 @@ pub fn columns<R: Env>(rt: &R) -> usize {
     }
 }
 
-impl<'a, F, V, P, M, S> Options<'a, F, V, P, M, S> {
+impl<F, V, P, M, S> Options<'_, F, V, P, M, S> {
+    ghost use Rattle.std.specs.Prelude.{◌≡◌, ℕ, IfOk, List, string_bytes};
+    ghost use Rattle.lexopt_options.specs.Answers.{IsAskedText, IsCompletionText, script_lines};
+    ghost use Rattle.lexopt_options.specs.Declarations.{declaration_of};
+    ghost use Rattle.lexopt_options.specs.Keys.{asked_view};
+    ghost use Rattle.lexopt_options.specs.States.{IsFrontOf};
+
     /// Returns what can come where `typed` is typed after `words`, as the scripts for shells read
     /// it.
     ///
@@ -296,6 +313,7 @@ impl<'a, F, V, P, M, S> Options<'a, F, V, P, M, S> {
         front: &Option<Front>,
         typed: &OsString,
     ) -> Result<String, AllocError>
+        requires { (words : List (List ℕ)) × IsFrontOf (declaration_of self.now) words front.now }
         ensures { (words : List (List ℕ)) → IsFrontOf (declaration_of self.now) words front.now
             → IfOk result (λ text. IsCompletionText self.now words typed.now (string_bytes text)) }
     {
@@ -348,6 +366,11 @@ impl<'a, F, V, P, M, S> Options<'a, F, V, P, M, S> {
             Asked::Version(version) => format!(in alloc; "{version}\n"),
         }
     }
+}
+
+impl<'a, F, V, P, M, S> Options<'a, F, V, P, M, S> {
+    ghost use Rattle.std.specs.Prelude.{IfOk};
+    ghost use Rattle.lexopt_options.specs.Answers.{IsUnknownRequest};
 
     /// Returns the refusal of an unknown request of a shell. Its mistake names the variable.
     ///
@@ -369,6 +392,11 @@ impl<'a, F, V, P, M, S> Options<'a, F, V, P, M, S> {
 }
 
 impl<'a, F: Copy, V: Copy, P: Copy, M: Copy, S: Copy> Options<'a, F, V, P, M, S> {
+    ghost use Rattle.std.specs.Prelude.{ℕ, IfOk, List, Option};
+    ghost use Rattle.lexopt_options.specs.Answers.{IsAnswer, IsRequestAnswer};
+    ghost use Rattle.lexopt_options.specs.Requests.{IsRequest};
+    ghost use Rattle.lexopt_options.specs.declared.request.Request.{Request};
+
     /// Reads the words of a command line, and returns what the program has to do.
     ///
     /// The words are without the name of the program. This call consumes them. If an option that
@@ -460,9 +488,14 @@ impl<'a, F: Copy, V: Copy, P: Copy, M: Copy, S: Copy> Options<'a, F, V, P, M, S>
     ///
     /// The first word is taken for the name that the program was called by, and is not read. The
     /// width of the help is [`columns`]. A shell asks by the environment variable that [`variable`]
-    /// names, such as `_EXAMPLE_ARCHIVE_COMPLETE` for `example_archive`, with the values that
-    /// [`Request::new`] lists, which are those of Python's click. The name is [`Options::program`],
-    /// whatever the name by which the program was called.
+    /// names, such as `_EXAMPLE_ARCHIVE_COMPLETE` for `example_archive`, with the values of
+    /// Python's click. The name is [`Options::program`], whatever the name by which the program was
+    /// called. These are the values:
+    ///
+    /// - `bash_source`, `zsh_source` and `fish_source` ask for the script of that shell.
+    /// - `bash_complete`, `zsh_complete` and `fish_complete` ask what can come. In that case the
+    ///   last word is what was typed, and the others come before it.
+    /// - Any other value is refused, unless it is empty.
     ///
     /// The clause is about some words, some value and some width. No clause can state that they are
     /// those of the environment.

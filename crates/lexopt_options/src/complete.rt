@@ -1,23 +1,22 @@
 //! What can come where a word is typed, for the completion of shells.
-ghost use Rattle.std.specs.Prelude.{◌≡◌, ◌↔◌, ◌∷◌, ◌++◌, ℕ, IfOk, IsTrue, List, MatchOption};
-ghost use Rattle.std.specs.Prelude.{OnOk, [], filter, nat_eq, map, option_map, slice_get};
-ghost use Rattle.std.specs.Prelude.{string_bytes, true, ⊤, Option};
+ghost use Rattle.std.specs.Prelude.{◌≡◌, ◌≢◌, ◌↔◌, ◌∷◌, ◌++◌, ℕ, IfOk, IsTrue, List, MatchOption, OnOk, []};
+ghost use Rattle.std.specs.Prelude.{◌<◌, Some, filter, length, nat_eq, map, option_map, slice_get};
+ghost use Rattle.std.specs.Prelude.{string_bytes, true};
 ghost use Rattle.std.specs.List.{flat_map, starts_with};
 ghost use Rattle.std.specs.Str.{IsUtf8};
 ghost use Rattle.lexopt_spec.specs.UnreadLine.{BeginsWith, dash};
-ghost use Rattle.lexopt_options_spec.specs.Completion.{IsJoined, AreOwnersIn, HasRole};
+ghost use Rattle.lexopt_options_spec.specs.Completion.{IsJoined};
 ghost use Rattle.lexopt_options_spec.specs.Declaration as spec;
 ghost use Rattle.lexopt_options_spec.specs.Declaration.{Declaration};
 ghost use Rattle.lexopt_options_spec.specs.Legal.{most};
 ghost use Rattle.lexopt_options_spec.specs.States as states;
-ghost use Rattle.lexopt_declaration.specs.Models.{positional_view, spelling_view};
+ghost use Rattle.lexopt_declaration.specs.Models.{positional_view};
 ghost use Rattle.lexopt_options.specs.Completions.{CanCome, Opens, joined_values, values_so};
-ghost use Rattle.lexopt_options.specs.Completions.{word_values, words_so, AreOffered, IsCompletion};
-ghost use Rattle.lexopt_options.specs.Declarations.{declaration_of, options_of};
-ghost use Rattle.lexopt_options.specs.Roles.{joined_view, place_view, seen_of, words_of};
-ghost use Rattle.lexopt_options.specs.Roles.{IsJoinedAt, IsRoleAt};
-ghost use Rattle.lexopt_options.specs.Begun.{IsFrontOf, IsLast, state_view};
-ghost use Rattle.lexopt_options_spec.specs.Completion as completion;
+ghost use Rattle.lexopt_options.specs.Completions.{word_values, words_so};
+ghost use Rattle.lexopt_options.specs.Declarations.{declaration_of};
+ghost use Rattle.lexopt_options.specs.Roles.{IsDeclared, IsRole, joined_view, place_view, seen_of};
+ghost use Rattle.lexopt_options.specs.Roles.{words_of};
+ghost use Rattle.lexopt_options.specs.States.{IsFrontOf, IsLast, state_view};
 
 use crate::front::{Front, State};
 use crate::options::Options;
@@ -40,6 +39,8 @@ pub enum Role<'a, F, V = Infallible, M = Infallible, S = Infallible> {
 }
 
 impl<F, V, M, S> Clone for Role<'_, F, V, M, S> {
+    ghost use Rattle.std.specs.Prelude.{◌≡◌, ⊤};
+
     ghost is_clone = { λ own copy. copy ≡ own };
 
     ghost is_infallible = { λ _. ⊤ };
@@ -202,6 +203,14 @@ fn begins_with_dash(typed: &OsString) -> bool
     typed.as_bytes().first() == Some(&b'-')
 }
 
+// If this holds, what was typed begins with a byte other than a dash, so that no spelling begins
+// with it.
+fn begins_otherwise(typed: &OsString) -> bool
+    ensures { IsTrue result → (typed.now ≢ []) × ¬ BeginsWith dash typed.now }
+{
+    !typed.is_empty() && !begins_with_dash(typed)
+}
+
 // ---- a value in the word of its option
 
 // One word.
@@ -250,21 +259,31 @@ fn joined_value(
 
 // ---- the options of these indices
 
-// The option at this index, if there is one.
+// The option at this index.
 #[tactic(auto, using(crate::proofs::Accepted::at_place))]
 fn option_at<'a, F, V, M, S>(
     options: &'a [Declared<'a, F, V, M, S>],
     index: usize,
-) -> Option<&'a Declared<'a, F, V, M, S>>
-    ensures { option_map (λ o. o.now) result ≡ slice_get options.now index }
+) -> &'a Declared<'a, F, V, M, S>
+    requires { index < length options.now }
+    ensures { slice_get options.now index ≡ Some result.now }
 {
-    match options.get(index) {
-        Some(option) => Some(option),
-        None => None,
-    }
+    &options[index]
 }
 
-// ---- values in lists
+// What a word that is not an option is, with the option itself.
+fn role_of<'a, F, V, M, S>(
+    options: &'a [Declared<'a, F, V, M, S>],
+    place: Place,
+) -> Role<'a, F, V, M, S>
+    requires { (words : List (List ℕ)) × IsDeclared (length options.now) (place_view words place) }
+    ensures { (words : List (List ℕ)) → IsRole options.now (place_view words place) result }
+{
+    match place {
+        Place::Value(index) => Role::Value(option_at(options, index)),
+        Place::Argument => Role::Argument,
+    }
+}
 
 // Adds the words in the list of the positional at this index that begin with what was typed.
 fn add_words_at<P>(
@@ -359,6 +378,17 @@ fn values_for<F, V, P, M, S>(
 }
 
 impl<'a, F, V, P, M, S> Options<'a, F, V, P, M, S> {
+    ghost use Rattle.std.specs.Prelude.{◌↔◌, ℕ, IfOk, IsTrue, List, Option, map, option_map};
+    ghost use Rattle.lexopt_options_spec.specs.Completion as completion;
+    ghost use Rattle.lexopt_options_spec.specs.Completion.{AreOwnersIn, HasRole, IsJoined};
+    ghost use Rattle.lexopt_declaration.specs.Models.{spelling_view};
+    ghost use Rattle.lexopt_options.specs.Completions.{AreOffered, CanCome, IsCompletion};
+    ghost use Rattle.lexopt_options.specs.Completions.{Opens};
+    ghost use Rattle.lexopt_options.specs.Declarations.{declaration_of, options_of};
+    ghost use Rattle.lexopt_options.specs.Roles.{IsJoinedAt, IsRoleAt, joined_view, place_view};
+    ghost use Rattle.lexopt_options.specs.Roles.{words_of};
+    ghost use Rattle.lexopt_options.specs.States.{IsFrontOf};
+
     // The spellings that begin with what was typed, without those of options that are excluded by
     // one before; none if no option can come after words that mean this.
     fn spellings_for(
@@ -372,8 +402,7 @@ impl<'a, F, V, P, M, S> Options<'a, F, V, P, M, S> {
             → AreOffered (declaration_of self.now) words typed.now
             (map spelling_view spellings.items)) }
     {
-        // Each spelling begins with a dash.
-        if !typed.is_empty() && !begins_with_dash(typed) {
+        if begins_otherwise(typed) {
             return Ok(Vec::new(alloc));
         }
         if !can_come(self, front) {
@@ -417,16 +446,17 @@ impl<'a, F, V, P, M, S> Options<'a, F, V, P, M, S> {
         opens: bool,
         typed: &OsString,
     ) -> Result<Option<Joined<'a, F, V, M, S>>, AllocError>
+        requires { (words : List (List ℕ)) × Opens (declaration_of self.now) words opens }
         ensures { IfOk result (λ found. (words : List (List ℕ))
             → Opens (declaration_of self.now) words opens → (joined : Option completion.Joined)
             × IsJoined (declaration_of self.now) words typed.now joined
             × IsJoinedAt (options_of self.now) joined found) }
     {
         match self.joined_option(alloc, opens, typed)? {
-            Some((index, before)) => match option_at(self.options(), index) {
-                Some(option) => Ok(Some(Joined { option, before })),
-                None => Ok(None),
-            },
+            Some((index, before)) => Ok(Some(Joined {
+                option: option_at(self.options(), index),
+                before,
+            })),
             None => Ok(None),
         }
     }
@@ -444,19 +474,14 @@ impl<'a, F, V, P, M, S> Options<'a, F, V, P, M, S> {
     }
 
     // What a word is at this place, with the option itself.
-    fn role(&self, place: Option<Place>) -> Option<Role<'a, F, V, M, S>>
-        ensures { (words before : List (List ℕ)) (typed : List ℕ)
-            → HasRole (declaration_of self.now) words typed (option_map (place_view before) place)
+    fn role(&self, typed: &OsString, place: Option<Place>) -> Option<Role<'a, F, V, M, S>>
+        requires { (words before : List (List ℕ)) × HasRole (declaration_of self.now) words
+            typed.now (option_map (place_view before) place) }
+        ensures { (before : List (List ℕ))
             → IsRoleAt (options_of self.now) (option_map (place_view before) place) result }
     {
         match place {
-            Some(place) => match place {
-                Place::Value(index) => match option_at(self.options(), index) {
-                    Some(option) => Some(Role::Value(option)),
-                    None => None,
-                },
-                Place::Argument => Some(Role::Argument),
-            },
+            Some(place) => Some(role_of(self.options(), place)),
             None => None,
         }
     }
@@ -529,11 +554,12 @@ impl<'a, F, V, P, M, S> Options<'a, F, V, P, M, S> {
         front: &Option<Front>,
         typed: &OsString,
     ) -> Result<Completion<'a, F, V, M, S>, AllocError>
+        requires { (words : List (List ℕ)) × IsFrontOf (declaration_of self.now) words front.now }
         ensures { (words : List (List ℕ)) → IsFrontOf (declaration_of self.now) words front.now
             → IfOk result (λ completion. IsCompletion self.now words typed.now completion) }
     {
         let place = self.place(front, typed);
-        let word = self.role(place);
+        let word = self.role(typed, place);
         let arguments = self.arguments(alloc, words_of(front), place)?;
         let joined = self.joined(alloc, is_open(front), typed)?;
         Ok(Completion {

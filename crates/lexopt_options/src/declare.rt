@@ -135,8 +135,8 @@ macro_rules! declare {
                 placeholder: $placeholder,
                 count: $crate::declare!(@$count),
                 help: $crate::declare!(@or "" $(, $text)?),
-                words: $crate::declare!(@last words $crate::Words::Files, $(.$limit $limited)*),
-                hides_list: false $(|| $crate::declare!(@limit_hides_list $limit $limited))*,
+                words: $crate::declare!(@words $crate::Words::Files, $(.$limit $limited)*),
+                hides_list: false $(|| $crate::declare!(@hides_list $limit))*,
             }),*)?],
             epilogue: &[$($($paragraph),*)?],
             short_equals: true $(&& $short_equals)?,
@@ -172,69 +172,61 @@ macro_rules! declare {
             names: $names,
             kind: $kind,
             help: $help,
-            details: $crate::declare!(@last details None, $(.$mark $marked)*),
-            heading: $crate::declare!(@last heading None, $(.$mark $marked)*),
-            hidden: false $(|| $crate::declare!(@is_hidden $mark $marked))*,
+            details: $crate::declare!(@details None, $(.$mark $marked)*),
+            heading: $crate::declare!(@heading None, $(.$mark $marked)*),
+            hidden: false $(|| $crate::declare!(@is_hidden $mark))*,
             required: false $(|| $crate::declare!(@is_required $mark))*,
-            default: $crate::declare!(@last default None, $(.$mark $marked)*),
-            exclusive: $crate::declare!(@last exclusive None, $(.$mark $marked)*),
-            words: $crate::declare!(@last words $crate::Words::Files, $(.$mark $marked)*),
+            default: $crate::declare!(@default None, $(.$mark $marked)*),
+            exclusive: $crate::declare!(@exclusive None, $(.$mark $marked)*),
+            words: $crate::declare!(@option_words $crate::Words::Files, $(.$mark $marked)*),
             hides_list: false $(|| $crate::declare!(@hides_list $mark))*,
             aliases: $crate::declare!(@aliases [] $(.$mark $marked)*),
-            beside: $crate::declare!(@last beside $crate::Beside::Nothing, $(.$mark $marked)*),
+            beside: $crate::declare!(@beside $crate::Beside::Nothing, $(.$mark $marked)*),
         }
     };
-    (@is_hidden hidden()) => { true };
-    (@is_hidden required()) => { false };
-    (@is_hidden hide_list()) => { false };
-    (@is_hidden with_negation()) => { false };
-    (@is_hidden directories()) => { false };
-    (@is_hidden text()) => { false };
-    (@is_hidden one_of($values:expr $(,)?)) => { false };
-    (@is_hidden with_flag $marked:tt) => { false };
-    (@is_hidden alias $marked:tt) => { false };
-    (@is_hidden heading $marked:tt) => { false };
-    (@is_hidden details $marked:tt) => { false };
-    (@is_hidden default $marked:tt) => { false };
-    (@is_hidden exclusive $marked:tt) => { false };
+    (@is_hidden hidden) => { true };
+    (@is_hidden $mark:ident) => { false };
     (@is_required required) => { true };
     (@is_required $mark:ident) => { false };
     (@hides_list hide_list) => { true };
     (@hides_list $mark:ident) => { false };
-    (@limit_hides_list hide_list()) => { true };
-    (@limit_hides_list directories()) => { false };
-    (@limit_hides_list text()) => { false };
-    (@limit_hides_list one_of($values:expr $(,)?)) => { false };
-    (@last $part:ident $value:expr,) => { $value };
-    (@last heading $value:expr, .heading($given:expr $(,)?) $($marks:tt)*) => {
-        $crate::declare!(@last heading Some($given), $($marks)*)
+    (@heading $heading:expr,) => { $heading };
+    (@heading $heading:expr, .heading($given:expr $(,)?) $($mark:tt)*) => {
+        $crate::declare!(@heading Some($given), $($mark)*)
     };
-    (@last details $value:expr, .details($given:expr $(,)?) $($marks:tt)*) => {
-        $crate::declare!(@last details Some($given), $($marks)*)
+    (@heading $heading:expr, .$mark:ident $marked:tt $($marks:tt)*) => {
+        $crate::declare!(@heading $heading, $($marks)*)
     };
-    (@last default $value:expr, .default($given:expr $(,)?) $($marks:tt)*) => {
-        $crate::declare!(@last default Some($given), $($marks)*)
+    (@details $details:expr,) => { $details };
+    (@details $details:expr, .details($given:expr $(,)?) $($mark:tt)*) => {
+        $crate::declare!(@details Some($given), $($mark)*)
     };
-    (@last exclusive $value:expr, .exclusive($given:expr $(,)?) $($marks:tt)*) => {
-        $crate::declare!(@last exclusive Some($given), $($marks)*)
+    (@details $details:expr, .$mark:ident $marked:tt $($marks:tt)*) => {
+        $crate::declare!(@details $details, $($marks)*)
     };
-    (@last beside $value:expr, .with_flag($given:expr $(,)?) $($marks:tt)*) => {
-        $crate::declare!(@last beside $crate::Beside::Flag($given), $($marks)*)
+    (@default $default:expr,) => { $default };
+    (@default $default:expr, .default($given:expr $(,)?) $($mark:tt)*) => {
+        $crate::declare!(@default Some($given), $($mark)*)
     };
-    (@last beside $value:expr, .with_negation() $($marks:tt)*) => {
-        $crate::declare!(@last beside $crate::Beside::Negation, $($marks)*)
+    (@default $default:expr, .$mark:ident $marked:tt $($marks:tt)*) => {
+        $crate::declare!(@default $default, $($marks)*)
     };
-    (@last words $value:expr, .directories() $($marks:tt)*) => {
-        $crate::declare!(@last words $crate::Words::Directories, $($marks)*)
+    (@exclusive $exclusive:expr,) => { $exclusive };
+    (@exclusive $exclusive:expr, .exclusive($given:expr $(,)?) $($mark:tt)*) => {
+        $crate::declare!(@exclusive Some($given), $($mark)*)
     };
-    (@last words $value:expr, .text() $($marks:tt)*) => {
-        $crate::declare!(@last words $crate::Words::Text, $($marks)*)
+    (@exclusive $exclusive:expr, .$mark:ident $marked:tt $($marks:tt)*) => {
+        $crate::declare!(@exclusive $exclusive, $($marks)*)
     };
-    (@last words $value:expr, .one_of($given:expr $(,)?) $($marks:tt)*) => {
-        $crate::declare!(@last words $crate::Words::Listed($given), $($marks)*)
+    (@beside $beside:expr,) => { $beside };
+    (@beside $beside:expr, .with_flag($given:expr $(,)?) $($mark:tt)*) => {
+        $crate::declare!(@beside $crate::Beside::Flag($given), $($mark)*)
     };
-    (@last $part:ident $value:expr, .$mark:ident $marked:tt $($marks:tt)*) => {
-        $crate::declare!(@last $part $value, $($marks)*)
+    (@beside $beside:expr, .with_negation() $($mark:tt)*) => {
+        $crate::declare!(@beside $crate::Beside::Negation, $($mark)*)
+    };
+    (@beside $beside:expr, .$mark:ident $marked:tt $($marks:tt)*) => {
+        $crate::declare!(@beside $beside, $($marks)*)
     };
     (@aliases []) => { $crate::NO_ALIASES };
     (@aliases [$($alias:expr),+]) => { &[$($alias),+] };
@@ -244,6 +236,50 @@ macro_rules! declare {
     (@aliases [$($alias:expr),*] .$mark:ident $marked:tt $($marks:tt)*) => {
         $crate::declare!(@aliases [$($alias),*] $($marks)*)
     };
+    (@option_words $words:expr,) => { $words };
+    (@option_words $words:expr, .hidden() $($mark:tt)*) => {
+        $crate::declare!(@option_words $words, $($mark)*)
+    };
+    (@option_words $words:expr, .required() $($mark:tt)*) => {
+        $crate::declare!(@option_words $words, $($mark)*)
+    };
+    (@option_words $words:expr, .heading $marked:tt $($mark:tt)*) => {
+        $crate::declare!(@option_words $words, $($mark)*)
+    };
+    (@option_words $words:expr, .details $marked:tt $($mark:tt)*) => {
+        $crate::declare!(@option_words $words, $($mark)*)
+    };
+    (@option_words $words:expr, .default $marked:tt $($mark:tt)*) => {
+        $crate::declare!(@option_words $words, $($mark)*)
+    };
+    (@option_words $words:expr, .exclusive $marked:tt $($mark:tt)*) => {
+        $crate::declare!(@option_words $words, $($mark)*)
+    };
+    (@option_words $words:expr, .with_flag $marked:tt $($mark:tt)*) => {
+        $crate::declare!(@option_words $words, $($mark)*)
+    };
+    (@option_words $words:expr, .with_negation() $($mark:tt)*) => {
+        $crate::declare!(@option_words $words, $($mark)*)
+    };
+    (@option_words $words:expr, .hide_list() $($mark:tt)*) => {
+        $crate::declare!(@option_words $words, $($mark)*)
+    };
+    (@option_words $words:expr, .alias $names:tt $($mark:tt)*) => {
+        $crate::declare!(@option_words $words, $($mark)*)
+    };
+    (@option_words $words:expr, .$limit:ident $limited:tt $($mark:tt)*) => {
+        $crate::declare!(@option_words $crate::declare!(@$limit $limited), $($mark)*)
+    };
+    (@words $words:expr,) => { $words };
+    (@words $words:expr, .hide_list() $($mark:tt)*) => {
+        $crate::declare!(@words $words, $($mark)*)
+    };
+    (@words $words:expr, .$limit:ident $limited:tt $($mark:tt)*) => {
+        $crate::declare!(@words $crate::declare!(@$limit $limited), $($mark)*)
+    };
+    (@directories()) => { $crate::Words::Directories };
+    (@text()) => { $crate::Words::Text };
+    (@one_of($values:expr $(,)?)) => { $crate::Words::Listed($values) };
     (@once) => { $crate::Count::Once };
     (@at_most_once) => { $crate::Count::AtMostOnce };
     (@any_number) => { $crate::Count::AnyNumber };

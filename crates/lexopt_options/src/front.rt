@@ -1,17 +1,17 @@
 //! What words mean as the beginning of a line, and what the next word is. `read.rt` reads a whole
 //! line by keys.
-ghost use Rattle.std.specs.Prelude.{◌≡◌, ◌≢◌, ◌↔◌, ℕ, [], IfOk, IsTrue, List, None, Some, false};
-ghost use Rattle.std.specs.Prelude.{slice_get};
-ghost use Rattle.lexopt_spec.specs.UnreadLine.{IsLine, pending, UnreadLine};
+ghost use Rattle.std.specs.Prelude.{◌≡◌, ◌≢◌, ◌↔◌, ◌&&◌, ℕ, [], IfOk, IsTrue, List, None, Some};
+ghost use Rattle.std.specs.Prelude.{false, slice_get};
+ghost use Rattle.lexopt_spec.specs.UnreadLine.{IsLine, pending};
 ghost use Rattle.lexopt_line_spec.specs.Readings.{start};
 ghost use Rattle.lexopt_options_spec.specs.Declaration.{Declaration};
 ghost use Rattle.lexopt_options_spec.specs.States as spec;
 ghost use Rattle.lexopt_declaration.specs.Models.{option_view};
-ghost use Rattle.lexopt_options.specs.Begun.{IsBegun, is_ended, surplus_begun, TellsRest};
-ghost use Rattle.lexopt_options.specs.Begun.{IsAfterName, first_of, state_view, IsFront, IsFrontOf};
+ghost use Rattle.lexopt_options.specs.Begun.{IsBegun, is_ended, surplus_begun};
 ghost use Rattle.lexopt_options.specs.Declarations.{declaration_of};
 ghost use Rattle.lexopt_options.specs.RestStarts.{start_view};
-ghost use Rattle.lexopt_options_spec.specs.Rest.{surplus};
+ghost use Rattle.lexopt_options.specs.States.{IsAfterName, first_of, index_if};
+ghost use Rattle.lexopt_options.specs.States.{state_view, with_index};
 
 use crate::listed::{accepts, refused_place};
 use crate::options::Options;
@@ -20,7 +20,7 @@ use crate::rest::{RestStart, is_separated};
 use lexopt_base::parser::Parser;
 use lexopt_base::refusal::Refusal;
 use lexopt_base::values::read_several;
-use lexopt_declaration::declaration::{Arity, Declared};
+use lexopt_declaration::declaration::{Declared, Kind};
 use lexopt_words::os_string::OsString;
 use std::alloc::{AllocError, Global};
 
@@ -69,12 +69,12 @@ pub(crate) enum Begun {
 // What is read of an option after its name.
 #[derive(Drop)]
 enum AfterName {
-    // Its values: whether it accepts them; its index and the first of them, if there is one; and its
-    // index, if a plain word right after them would be one more.
+    // Its values: whether it accepts them, the first of them, and whether a plain word right after
+    // them would be one more.
     Values {
         accepted: bool,
-        first: Option<(usize, OsString)>,
-        goes_on: Option<usize>,
+        first: Option<OsString>,
+        goes_on: bool,
     },
     // It lacks a value where the words end. This is what the next word is.
     Lacks(State),
@@ -104,14 +104,14 @@ fn lacking(refused: Refusal, found: AfterName) -> Result<AfterName, AllocError>
     }
 }
 
-// This index with the first of these values.
-fn first_of(index: usize, mut values: Vec<OsString>) -> Option<(usize, OsString)>
-    ensures { result ≡ first_of index values.items }
+// The first of these values.
+fn first_of(mut values: Vec<OsString>) -> Option<OsString>
+    ensures { result ≡ first_of values.items }
 {
     if values.is_empty() {
         None
     } else {
-        Some((index, values.swap_remove(0)))
+        Some(values.swap_remove(0))
     }
 }
 
@@ -126,40 +126,40 @@ fn read_after_name<F, V, M, S>(
         → slice_get d.options index ≡ Some (option_view option.now)
         → IsAfterName d index parser.old found parser.new) }
 {
-    match option.kind.arity() {
-        Arity::Zero => Ok(AfterName::Values {
+    match option.kind {
+        Kind::Flag(_) | Kind::Help | Kind::BriefHelp | Kind::Version(_) => Ok(AfterName::Values {
             accepted: true,
             first: None,
-            goes_on: None,
+            goes_on: false,
         }),
-        Arity::One(_) => match parser.take() {
+        Kind::Value(_, _) => match parser.take() {
             Ok(value) => Ok(AfterName::Values {
                 accepted: accepts(option.words, &value),
-                first: Some((index, value)),
-                goes_on: None,
+                first: Some(value),
+                goes_on: false,
             }),
             Err(refused) => lacking(refused, AfterName::Lacks(State::Due(index))),
         },
-        Arity::Optional(_) => match parser.optional_value() {
+        Kind::Maybe(_, _) => match parser.optional_value() {
             Some(value) => Ok(AfterName::Values {
                 accepted: accepts(option.words, &value),
-                first: Some((index, value)),
-                goes_on: None,
+                first: Some(value),
+                goes_on: false,
             }),
             None => Ok(AfterName::Values {
                 accepted: true,
                 first: None,
-                goes_on: None,
+                goes_on: false,
             }),
         },
-        Arity::Several(_) => {
+        Kind::Values(_, _) => {
             let is_joined = parser.has_joined_value();
             let is_last = is_at_end(parser);
             match read_several(alloc, parser) {
                 Ok(values) => Ok(AfterName::Values {
                     accepted: refused_place(option.words, &values).is_none(),
-                    first: first_of(index, values),
-                    goes_on: (!is_joined).then_some(index),
+                    first: first_of(values),
+                    goes_on: !is_joined,
                 }),
                 Err(refused) => {
                     if is_last {
@@ -185,6 +185,31 @@ fn state_at_end(going_on: Option<usize>, is_past_separator: bool) -> State
         Some(index) => State::Further(index),
         None => State::Anything,
     }
+}
+
+// Whether both hold. This function and the next two are apart from the loop, so that its proof has
+// fewer cases.
+fn are_both(one: bool, other: bool) -> bool
+    ensures { result ≡ (one && other) }
+{
+    one && other
+}
+
+// This index with the value, if there is one.
+fn with_index(index: usize, value: Option<OsString>) -> Option<(usize, OsString)>
+    ensures { result ≡ with_index index value }
+{
+    match value {
+        Some(value) => Some((index, value)),
+        None => None,
+    }
+}
+
+// This index, if that holds.
+fn index_if(holds: bool, index: usize) -> Option<usize>
+    ensures { result ≡ index_if holds index }
+{
+    if holds { Some(index) } else { None }
 }
 
 // What words with one positional too many are.
@@ -229,9 +254,9 @@ pub(crate) fn read_front<F, V, P, M, S>(
                         goes_on,
                     } => {
                         note(is_noted(option), index, &mut seen)?;
-                        all_accepted &= accepted;
-                        last = first;
-                        going_on = goes_on;
+                        all_accepted = are_both(all_accepted, accepted);
+                        last = with_index(index, first);
+                        going_on = index_if(goes_on, index);
                     }
                     AfterName::Lacks(state) => {
                         let front = Front {
@@ -288,6 +313,14 @@ fn takes_positional(state: State) -> bool
 }
 
 impl<F, V, P, M, S> Options<'_, F, V, P, M, S> {
+    ghost use Rattle.std.specs.Prelude.{IfOk, List, ℕ};
+    ghost use Rattle.lexopt_spec.specs.UnreadLine.{UnreadLine};
+    ghost use Rattle.lexopt_options_spec.specs.Rest.{surplus};
+    ghost use Rattle.lexopt_options.specs.Begun.{IsBegun, TellsRest};
+    ghost use Rattle.lexopt_options.specs.Declarations.{declaration_of};
+    ghost use Rattle.lexopt_options.specs.RestStarts.{start_view};
+    ghost use Rattle.lexopt_options.specs.States.{IsFront, IsFrontOf};
+
     // Whether a rest would begin with a word that is plain even without a separator before it, such
     // as `add`, after words that mean this.
     pub(crate) fn begins_rest(&self, begins: RestStart, front: &Option<Front>) -> bool

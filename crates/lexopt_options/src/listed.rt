@@ -11,9 +11,9 @@ use crate::mistake::Mistake;
 use lexopt_declaration::declaration::{Declared, Words};
 use lexopt_words::os_string::OsString;
 
-// Whether a value is in this list. It is not inlined, since few options have a list.
+/// Whether a value is in this list. It is not inlined, since few options have a list.
 #[inline(never)]
-fn is_listed(values: &[&str], value: &[u8]) -> bool
+pub fn is_listed(values: &[&str], value: &[u8]) -> bool
     ensures { result
         ≡ list_any (λ own. pointwise ◌==◌ own.now value.now) values.now }
 {
@@ -41,8 +41,8 @@ pub fn refused_place(words: Words<'_>, values: &[OsString]) -> Option<usize>
     }
 }
 
-/// The values of a list; none if there is no list.
-pub fn list_of(words: Words<'_>) -> &[&str]
+// The values of a list; none if there is no list.
+fn list_of(words: Words<'_>) -> &[&str]
     ensures { map (λ own. own.now) result.now ≡ list_of (words_view words.entry) }
 {
     match words {

@@ -1,10 +1,9 @@
 //! What can be wrong with a line, the messages about it, and the hint of an unknown short option.
-ghost use Rattle.std.specs.Prelude.{IfOk, map, Some};
+ghost use Rattle.std.specs.Prelude.{IfOk, map};
 ghost use Rattle.lexopt_spec.specs.UnreadLine as unread;
 ghost use Rattle.lexopt_line_spec.specs.Table.{short};
 ghost use Rattle.lexopt_options_spec.specs.Nearest.{IsHint};
 ghost use Rattle.lexopt_declaration.specs.Models.{option_view};
-ghost use Rattle.lexopt_options.specs.Messages.{name_text, message};
 
 use lexopt_declaration::declaration::{Declared, Names};
 use lexopt_declaration::hints::write_hints;
@@ -26,6 +25,9 @@ pub enum OptionName {
 }
 
 impl fmt::Display for OptionName {
+    ghost use Rattle.std.specs.Prelude.{Some};
+    ghost use Rattle.lexopt_options.specs.Messages.{name_text};
+
     ghost output = { λ name. Some (name_text name) };
 
     /// Writes the name with its dashes. Characters that a terminal may act on are escaped.
@@ -137,6 +139,9 @@ pub enum Mistake<'a> {
 }
 
 impl fmt::Display for Mistake<'_> {
+    ghost use Rattle.std.specs.Prelude.{Some};
+    ghost use Rattle.lexopt_options.specs.Messages.{message};
+
     ghost output = { λ mistake. Some (message mistake) };
 
     fn fmt<W: fmt::Write>(&self, f: &mut fmt::Formatter<W>) -> fmt::Result {
@@ -217,6 +222,9 @@ impl fmt::Display for Mistake<'_> {
 }
 
 impl fmt::Debug for Mistake<'_> {
+    ghost use Rattle.std.specs.Prelude.{Some};
+    ghost use Rattle.lexopt_options.specs.Messages.{message};
+
     ghost debug_output = { λ mistake. Some (message mistake) };
 
     fn fmt<W: fmt::Write>(&self, f: &mut fmt::Formatter<W>) -> fmt::Result {

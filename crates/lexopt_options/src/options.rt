@@ -24,14 +24,13 @@ pub struct Options<'a, F, V = Infallible, P = Infallible, M = Infallible, S = In
     declaration: &'a Declaration<'a, F, V, P, M, S>,
     // The name of the program: that of the declaration, or the path of a command.
     program: &'a str,
-    // What the end of each line is checked for, computed once; and whether a positional has a list,
-    // and whether an option is required, has a default or may be excluded.
+    // What the end of each line is checked for, computed once.
     least: usize,
     most: Option<usize>,
-    pub(crate) has_lists: bool,
-    pub(crate) has_required: bool,
-    pub(crate) has_defaults: bool,
-    pub(crate) has_exclusive: bool,
+    has_lists: bool,
+    has_required: bool,
+    has_defaults: bool,
+    has_exclusive: bool,
     ghost sound: { is_sound (map option_view declaration.now.options.now) ≡ true },
     ghost clear: { are_clear (map positional_view declaration.now.positionals.now) ≡ true },
     ghost listable: { are_listable (map positional_view declaration.now.positionals.now) ≡ true },
@@ -47,25 +46,46 @@ pub struct Options<'a, F, V = Infallible, P = Infallible, M = Infallible, S = In
         ≡ list_any (λ o. is_some o.exclusive) declaration.now.options.now },
 }
 
+// Whether this option is required.
+fn is_required<F, V, M, S>(option: &Declared<'_, F, V, M, S>) -> bool
+    ensures { result ≡ option.now.required }
+{
+    option.required
+}
+
 // Whether one of these options is required.
 fn any_is_required<F, V, M, S>(options: &[Declared<'_, F, V, M, S>]) -> bool
     ensures { result ≡ list_any (λ o. o.required) options.now }
 {
-    options.iter().any(|option| option.required)
+    options.iter().any(|option| is_required(option))
+}
+
+// Whether this option has a default.
+fn has_default<F, V, M, S>(option: &Declared<'_, F, V, M, S>) -> bool
+    ensures { result ≡ is_some option.now.default }
+{
+    option.default.is_some()
 }
 
 // Whether one of these options has a default.
 fn any_has_default<F, V, M, S>(options: &[Declared<'_, F, V, M, S>]) -> bool
     ensures { result ≡ list_any (λ o. is_some o.default) options.now }
 {
-    options.iter().any(|option| option.default.is_some())
+    options.iter().any(|option| has_default(option))
+}
+
+// Whether other options may exclude this one.
+fn is_exclusive<F, V, M, S>(option: &Declared<'_, F, V, M, S>) -> bool
+    ensures { result ≡ is_some option.now.exclusive }
+{
+    option.exclusive.is_some()
 }
 
 // Whether other options may exclude one of these.
 fn any_is_exclusive<F, V, M, S>(options: &[Declared<'_, F, V, M, S>]) -> bool
     ensures { result ≡ list_any (λ o. is_some o.exclusive) options.now }
 {
-    options.iter().any(|option| option.exclusive.is_some())
+    options.iter().any(|option| is_exclusive(option))
 }
 
 // Makes `Options` of a declaration that can be declared. It is not inlined, so that the loops of
@@ -94,10 +114,14 @@ fn checked<'a, F, V, P, M, S>(
 
 impl<'a, F, V, P, M, S> Options<'a, F, V, P, M, S> {
     ghost use Rattle.std.specs.Prelude.{◌≡◌, IfOk, None, map, string_bytes, true};
+    ghost use Rattle.std.specs.List.{list_any};
+    ghost use Rattle.std.specs.Option.{is_some};
     ghost use Rattle.lexopt_options_spec.specs.Legal as legal;
     ghost use Rattle.lexopt_options_spec.specs.Places as places;
+    ghost use Rattle.lexopt_options.specs.Taken.{has_list};
     ghost use Rattle.lexopt_options_spec.specs.Declarable.{first_fault};
-    ghost use Rattle.lexopt_options_spec.specs.Declaration.{are_clear, are_listable, is_sound};
+    ghost use Rattle.lexopt_options_spec.specs.Declaration.{are_clear, are_listable};
+    ghost use Rattle.lexopt_options_spec.specs.Declaration.{is_sound};
     ghost use Rattle.lexopt_options_spec.specs.Help.{IsHelp, IsUsage};
     ghost use Rattle.lexopt_declaration.specs.Models.{detail_view, option_view, positional_view};
     ghost use Rattle.lexopt_declaration.specs.Declarations.{declaration_view};
@@ -159,9 +183,16 @@ impl<'a, F, V, P, M, S> Options<'a, F, V, P, M, S> {
         ensures options { options_of result ≡ options_of self.now }
         ensures positionals { positionals_of result ≡ positionals_of self.now }
     {
-        let mut own = *self;
-        own.program = program;
-        own
+        Options {
+            declaration: self.declaration,
+            program,
+            least: self.least,
+            most: self.most,
+            has_lists: self.has_lists,
+            has_required: self.has_required,
+            has_defaults: self.has_defaults,
+            has_exclusive: self.has_exclusive,
+        }
     }
 
     /// Returns the name of the program.
@@ -235,6 +266,34 @@ impl<'a, F, V, P, M, S> Options<'a, F, V, P, M, S> {
         ensures { result ≡ legal.most (declaration_of self.now).positionals }
     {
         self.most
+    }
+
+    // Whether one of the positionals has a list.
+    pub(crate) fn has_lists(&self) -> bool
+        ensures { result ≡ list_any (λ p. has_list p) (positionals_of self.now) }
+    {
+        self.has_lists
+    }
+
+    // Whether one of the options is required.
+    pub(crate) fn has_required(&self) -> bool
+        ensures { result ≡ list_any (λ o. o.required) (options_of self.now) }
+    {
+        self.has_required
+    }
+
+    // Whether one of the options has a default.
+    pub(crate) fn has_defaults(&self) -> bool
+        ensures { result ≡ list_any (λ o. is_some o.default) (options_of self.now) }
+    {
+        self.has_defaults
+    }
+
+    // Whether other options may exclude one of the options.
+    pub(crate) fn has_exclusive(&self) -> bool
+        ensures { result ≡ list_any (λ o. is_some o.exclusive) (options_of self.now) }
+    {
+        self.has_exclusive
     }
 
     /// Returns the usage, wrapped to `width` columns: a line, or several, each with a line feed at

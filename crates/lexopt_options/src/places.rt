@@ -65,6 +65,24 @@ pub fn spare_of<P>(positionals: &[Positional<'_, P>], count: usize) -> usize
     count.saturating_sub(least_of(positionals))
 }
 
+// The key of the positional that the word at this index belongs to, counted from 0, where there are
+// `spare` more words than are required.
+fn key_of<P: Copy>(positionals: &[Positional<'_, P>], spare: usize, word: usize) -> Option<P>
+    ensures { (places : List ℕ) (count : ℕ)
+        → ArePlaces (map positional_view positionals.now) count places
+        → spare ≡ count - least (map positional_view positionals.now) → word < count
+        → (key : P) × (i : ℕ) × (result ≡ Some key)
+        × (slice_get places word ≡ Some i) × HasKey positionals.now i key }
+{
+    match place_of(positionals, spare, word) {
+        Some(index) => match positionals.get(index) {
+            Some(positional) => Some(positional.key),
+            None => None,
+        },
+        None => None,
+    }
+}
+
 /// How many positionals are among these.
 pub fn count_of<F, V, P, M, S>(parsed: &[Parsed<F, V, P, M, S>]) -> usize
     ensures { result ≡ length (filter (λ own. keys.is_positional own) parsed.now) }
@@ -94,10 +112,8 @@ fn give_key<F, V, P: Copy, M, S>(
 {
     match own {
         Parsed::Positional(key, _) => {
-            if let Some(place) = place_of(positionals, spare, word) {
-                if let Some(positional) = positionals.get(place) {
-                    *key = positional.key;
-                }
+            if let Some(other) = key_of(positionals, spare, word) {
+                *key = other;
             }
             true
         }

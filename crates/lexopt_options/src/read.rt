@@ -1,9 +1,9 @@
 //! Reads a whole line by a declaration. `rest.rt` reads a line whose rest is not read.
-ghost use Rattle.std.specs.Prelude.{◌≡◌, ◌≢◌, ◌≤◌, ◌<◌, ◌↔◌, ◌++◌, ℕ, List, IfOk, OnOk, slice_get};
-ghost use Rattle.std.specs.Prelude.{true, IsTrue, None, Option, Some, false, length, map};
+ghost use Rattle.std.specs.Prelude.{◌≡◌, ◌≢◌, ◌≤◌, ◌<◌, ◌↔◌, ◌++◌, ℕ, List, IfOk, OnOk, slice_get, true};
+ghost use Rattle.std.specs.Prelude.{IsTrue, None, Option, Some, false, length, map};
 ghost use Rattle.std.specs.List.{list_any};
 ghost use Rattle.std.specs.Option.{MatchOption, is_some};
-ghost use Rattle.lexopt_spec.specs.UnreadLine.{IsLine, UnreadLine};
+ghost use Rattle.lexopt_spec.specs.UnreadLine.{IsLine, Tail, UnreadLine};
 ghost use Rattle.lexopt_spec.specs.Steps as steps;
 ghost use Rattle.lexopt_spec.specs.Steps.{Next};
 ghost use Rattle.lexopt_line_spec.specs.Readings.{option_reply, start};
@@ -14,23 +14,25 @@ ghost use Rattle.lexopt_options_spec.specs.Declaration.{Declaration, has, index_
 ghost use Rattle.lexopt_options_spec.specs.Asking.{asked_by};
 ghost use Rattle.lexopt_options_spec.specs.Legal as legal;
 ghost use Rattle.lexopt_options_spec.specs.Legal.{AreApart, IsWithin, clash, counts};
-ghost use Rattle.lexopt_options_spec.specs.Legal.{default_beside, most, refused_value, Means};
+ghost use Rattle.lexopt_options_spec.specs.Legal.{default_beside};
+ghost use Rattle.lexopt_options_spec.specs.Legal.{defaults_beside, most, refused_value};
 ghost use Rattle.lexopt_options_spec.specs.Places.{least};
 ghost use Rattle.lexopt_options_spec.specs.Stops as stops;
 ghost use Rattle.lexopt_options_spec.specs.Stops.{IsFirstClash};
 ghost use Rattle.lexopt_declaration.specs.Models.{option_view};
+ghost use Rattle.lexopt_declaration.specs.Lookups.{names_at};
 ghost use Rattle.lexopt_options.specs.Declarations.{declaration_of, options_of, positionals_of};
 ghost use Rattle.lexopt_options.specs.Keys.{AreParsedAs, AreReadAs, asked_view, parsed_words};
 ghost use Rattle.lexopt_options.specs.Keys.{positional_keys};
+ghost use Rattle.lexopt_options.specs.Kinds as kinds;
 ghost use Rattle.lexopt_options.specs.Taken.{has_list};
-ghost use Rattle.lexopt_options.specs.Mistakes.{AreNames};
-ghost use Rattle.lexopt_options.specs.Lines.{IsLineRead, IsRefused, IsLineOf};
+ghost use Rattle.lexopt_options.specs.Mistakes.{AreNames, IsMistake};
+ghost use Rattle.lexopt_options.specs.Lines.{IsLineRead, IsRefused};
 ghost use Rattle.lexopt_options.specs.Reading.{AllSeen, AreSeen, ComesNext, UndeclaredNext};
 ghost use Rattle.lexopt_options.specs.Reading.{HasEnded, HasRead, HasStopped, IsFirstUnseen};
 ghost use Rattle.lexopt_options.specs.Reading.{IsNothing, IsReadByKey, IsRight, IsWrong};
-ghost use Rattle.lexopt_options.specs.Reading.{ReadsParsed, StopsAtOption, is_noted, kind_at};
-ghost use Rattle.lexopt_options.specs.Reading.{noted};
-ghost use Rattle.lexopt_declaration.specs.Lookups.{help_names};
+ghost use Rattle.lexopt_options.specs.Reading.{ReadsParsed};
+ghost use Rattle.lexopt_options.specs.Reading.{StopsAtOption, is_noted, noted};
 
 use crate::listed::{accepts, invalid_value, refused_place};
 use crate::mistake::{Mistake, OptionName, short_hints};
@@ -118,7 +120,7 @@ fn missing_value<'a, F, V, M, S>(
         (u v w : UnreadLine) (name : table.Name) → is_sound d.options ≡ true
         → slice_get d.options index ≡ Some (option_view option.now)
         → Next u (option_reply name) v → index_of d.options name ≡ Some index
-        → kind ≡ kind_at d.options index
+        → kind ≡ kinds.kind_at d.options index
         → ValuesEndBy kind v (refusal_reply refused) w → StopsAtOption d u mistake) }
 {
     match refused {
@@ -180,6 +182,43 @@ fn read_by_key<'a, F: Copy, V: Copy, P, M: Copy, S: Copy>(
     }
 }
 
+// The mistake that a long option is not declared.
+fn unknown_long<'a, F, V, P, M, S>(
+    alloc: Global,
+    options: &Options<'a, F, V, P, M, S>,
+    name: &str,
+) -> Result<Mistake<'a>, AllocError>
+    ensures { IfOk result (λ mistake. (left : Tail) → IsMistake (declaration_of options.now) mistake
+        (stops.unknown_option (table.long name.now) left)) }
+{
+    let names = long_names(alloc, options.options())?;
+    let hints = hinted_names(alloc, &names, name)?;
+    let name = OptionName::Long(String::from_str(alloc, name)?);
+    Ok(Mistake::UnknownOption { name, hints })
+}
+
+// The mistake that a short option, which was just read, is not declared. This takes the rest of its
+// cluster.
+fn unknown_short<'a, F, V, P, M, S>(
+    alloc: Global,
+    parser: &mut Parser,
+    options: &Options<'a, F, V, P, M, S>,
+    option: char,
+) -> Result<Mistake<'a>, AllocError>
+    ensures { (u : UnreadLine) → Next u (steps.short option) parser.old
+        → IfOk result (λ mistake. IsMistake (declaration_of options.now) mistake
+        (stops.unknown_option (table.short option) parser.old.tail)) }
+{
+    // So a leading `=` stays part of the rest.
+    parser.set_short_equals(false);
+    let hints = match parser.optional_value() {
+        Some(rest) => short_hints(alloc, options.options(), option, rest.as_bytes())?,
+        None => Vec::new(alloc),
+    };
+    let name = OptionName::Short(option);
+    Ok(Mistake::UnknownOption { name, hints })
+}
+
 // The mistake that an option, which was just read, is not declared: the short one with this
 // character, or else a long one. This takes the rest of its cluster. It is not inlined, so that
 // `read_keys` has no room for its result to clear for each word.
@@ -196,23 +235,8 @@ fn unknown_option<'a, F, V, P, M, S>(
         → StopsAtOption (declaration_of options.now) u mistake) }
 {
     match short {
-        Some(option) => {
-            // So a leading `=` stays part of the rest.
-            parser.set_short_equals(false);
-            let hints = match parser.optional_value() {
-                Some(rest) => short_hints(alloc, options.options(), option, rest.as_bytes())?,
-                None => Vec::new(alloc),
-            };
-            let name = OptionName::Short(option);
-            Ok(Mistake::UnknownOption { name, hints })
-        }
-        None => {
-            let name = parser.long_name();
-            let names = long_names(alloc, options.options())?;
-            let hints = hinted_names(alloc, &names, name)?;
-            let name = OptionName::Long(String::from_str(alloc, name)?);
-            Ok(Mistake::UnknownOption { name, hints })
-        }
+        Some(option) => unknown_short(alloc, parser, options, option),
+        None => unknown_long(alloc, options, parser.long_name()),
     }
 }
 
@@ -267,19 +291,18 @@ fn is_among(index: usize, seen: &[usize]) -> bool
     seen.contains(&index)
 }
 
-// The names of the first required option of a declaration whose index is not among `seen`. It is
-// not inlined, since few programs have required options.
+// The names of the first required option whose index is not among `seen`. It is not inlined, since
+// few programs have required options.
 #[inline(never)]
-fn first_unseen<'a, F, V, P, M, S>(
-    options: &Options<'a, F, V, P, M, S>,
+fn first_unseen<'a, F, V, M, S>(
+    options: &'a [Declared<'a, F, V, M, S>],
     seen: &[usize],
 ) -> Option<Names<'a>>
-    ensures { MatchOption result (AllSeen (declaration_of options.now).options seen.now)
-        (λ names. (index : ℕ) × IsFirstUnseen (declaration_of options.now).options seen.now index
-        × AreNames (declaration_of options.now).options index names) }
+    ensures { MatchOption result (AllSeen (map option_view options.now) seen.now)
+        (λ names. (index : ℕ) × IsFirstUnseen (map option_view options.now) seen.now index
+        × (names_at options.now (Some index) ≡ Some names)) }
 {
-    let declared = options.options();
-    for (index, option) in declared.iter().enumerate() {
+    for (index, option) in options.iter().enumerate() {
         if option.required && !is_among(index, seen) {
             return Some(option.names);
         }
@@ -287,7 +310,7 @@ fn first_unseen<'a, F, V, P, M, S>(
     None
 }
 
-// The same, by one test if no option of the declaration is required.
+// The names of the first required option of a declaration whose index is not among `seen`.
 fn missing_option<'a, F, V, P, M, S>(
     options: &Options<'a, F, V, P, M, S>,
     seen: &[usize],
@@ -296,10 +319,10 @@ fn missing_option<'a, F, V, P, M, S>(
         (λ names. (index : ℕ) × IsFirstUnseen (declaration_of options.now).options seen.now index
         × AreNames (declaration_of options.now).options index names) }
 {
-    if !options.has_required {
+    if !options.has_required() {
         return None;
     }
-    first_unseen(options, seen)
+    first_unseen(options.options(), seen)
 }
 
 // The names of the first option among `seen` that this one excludes, which is at this index.
@@ -315,7 +338,7 @@ fn first_excluded<'a, F, V, M, S>(
         MatchOption result ((other : ℕ) → clashes other ≡ false)
         (λ names. (other : ℕ) × (clashes other ≡ true)
         × ((i : ℕ) → i < other → clashes i ≡ false)
-        × AreNames (map option_view options.now) other names) }
+        × (names_at options.now (Some other) ≡ Some names)) }
 {
     for (other, declared) in options.iter().enumerate() {
         if other != index
@@ -331,19 +354,19 @@ fn first_excluded<'a, F, V, M, S>(
 // The names of the first option among `seen` that excludes another of them, and of the first that it
 // excludes. It is not inlined, since few programs have such options.
 #[inline(never)]
-fn first_clash<'a, F, V, P, M, S>(
-    options: &Options<'a, F, V, P, M, S>,
+fn first_clash<'a, F, V, M, S>(
+    options: &'a [Declared<'a, F, V, M, S>],
     seen: &[usize],
 ) -> Option<(Names<'a>, Names<'a>)>
-    ensures { let all = (declaration_of options.now).options in
-        MatchOption result (AreApart all (λ i. has i seen.now))
-        (λ both. (index : ℕ) × (other : ℕ) × IsFirstClash all (λ i. has i seen.now) index other
-        × AreNames all index both.0 × AreNames all other both.1) }
+    ensures { MatchOption result (AreApart (map option_view options.now) (λ i. has i seen.now))
+        (λ both. (index : ℕ) × (other : ℕ)
+        × IsFirstClash (map option_view options.now) (λ i. has i seen.now) index other
+        × (names_at options.now (Some index) ≡ Some both.0)
+        × (names_at options.now (Some other) ≡ Some both.1)) }
 {
-    let declared = options.options();
-    for (index, option) in declared.iter().enumerate() {
+    for (index, option) in options.iter().enumerate() {
         if is_among(index, seen) {
-            if let Some(other) = first_excluded(declared, option, index, seen) {
+            if let Some(other) = first_excluded(options, option, index, seen) {
                 return Some((option.names, other));
             }
         }
@@ -351,7 +374,7 @@ fn first_clash<'a, F, V, P, M, S>(
     None
 }
 
-// The same, by one test if no option of the declaration may be excluded.
+// The same for the options of a declaration.
 fn exclusive_options<'a, F, V, P, M, S>(
     options: &Options<'a, F, V, P, M, S>,
     seen: &[usize],
@@ -361,10 +384,10 @@ fn exclusive_options<'a, F, V, P, M, S>(
         (λ both. (index : ℕ) × (other : ℕ) × IsFirstClash all (λ i. has i seen.now) index other
         × AreNames all index both.0 × AreNames all other both.1) }
 {
-    if !options.has_exclusive {
+    if !options.has_exclusive() {
         return None;
     }
-    first_clash(options, seen)
+    first_clash(options.options(), seen)
 }
 
 // Whether this option is required, has a default or may be excluded.
@@ -395,13 +418,13 @@ fn is_complete<F, V, P, M, S>(options: &Options<'_, F, V, P, M, S>, count: usize
     if options.least() > count {
         return false;
     }
-    if options.has_lists {
+    if options.has_lists() {
         return false;
     }
-    if options.has_required {
+    if options.has_required() {
         return false;
     }
-    !options.has_exclusive
+    !options.has_exclusive()
 }
 
 // Whether a line without words means the empty list.
@@ -412,7 +435,7 @@ fn means_nothing<F, V, P, M, S>(options: &Options<'_, F, V, P, M, S>) -> bool
         × (list_any (λ o. is_some o.exclusive) (options_of options.now) ≡ false)
         × (list_any (λ o. is_some o.default) (options_of options.now) ≡ false) }
 {
-    if options.has_defaults {
+    if options.has_defaults() {
         return false;
     }
     is_complete(options, 0)
@@ -484,6 +507,24 @@ fn add_default<F: Drop, V: Copy, P: Drop, M: Drop, S: Drop>(
     }
 }
 
+// The options that have a default and whose index is not among `seen`, with their defaults.
+fn defaults_beside<F: Drop, V: Copy, P: Drop, M: Drop, S: Drop>(
+    alloc: Global,
+    options: &[Declared<'_, F, V, M, S>],
+    seen: &[usize],
+) -> Result<Vec<Parsed<F, V, P, M, S>>, AllocError>
+    requires { is_sound (map option_view options.now) ≡ true }
+    ensures { IfOk result (λ defaults. (l : List legal.Parsed)
+        → AreSeen (map option_view options.now) l seen.now
+        → AreParsedAs options.now (defaults_beside l 0 (map option_view options.now)) defaults.items) }
+{
+    let mut defaults = Vec::new(alloc);
+    for (index, option) in options.iter().enumerate() {
+        add_default(alloc, option, index, seen, &mut defaults)?;
+    }
+    Ok(defaults)
+}
+
 // What a legal line means of which this was read: the defaults of the options whose index is not
 // among `seen` come before it. It is not inlined, since few programs have defaults.
 #[inline(never)]
@@ -499,11 +540,7 @@ fn after_defaults<'a, F: Drop, V: Copy, P: Drop, M: Drop, S: Drop>(
         → AreReadAs (options_of options.now) l all.items
         × (positional_keys all.items ≡ positional_keys parsed.items)) }
 {
-    let declared = options.options();
-    let mut all = Vec::new(alloc);
-    for (index, option) in declared.iter().enumerate() {
-        add_default(alloc, option, index, seen, &mut all)?;
-    }
+    let mut all = defaults_beside(alloc, options.options(), seen)?;
     let mut parsed = parsed;
     all.append(&mut parsed)?;
     Ok(all)
@@ -523,7 +560,7 @@ fn with_defaults<'a, F: Drop, V: Copy, P: Drop, M: Drop, S: Drop>(
         → AreReadAs (options_of options.now) l all.items
         × (positional_keys all.items ≡ positional_keys parsed.items)) }
 {
-    if !options.has_defaults {
+    if !options.has_defaults() {
         return Ok(parsed);
     }
     after_defaults(alloc, options, seen, parsed)
@@ -641,35 +678,8 @@ pub(crate) fn refused_for<'a, F, V, P: Copy, M, S>(
     }
 }
 
-// The result for a line of which this was read to its end.
-#[inline(always)]
-fn line_at_end<'a, F: Drop, V: Copy, P: Copy, M: Drop, S: Drop>(
-    alloc: Global,
-    options: &Options<'a, F, V, P, M, S>,
-    read: Read<F, V, P, M, S>,
-) -> Result<Line<'a, F, V, P, M, S>, AllocError>
-    ensures { (words : List (List ℕ)) (v : UnreadLine)
-        → HasEnded options.now words RestStart.Surplus
-        read.count read.seen.items read.parsed.items Ended.End v
-        → IfOk result (λ line. IsLineRead options.now words line) }
-{
-    let Read {
-        mut parsed,
-        seen,
-        count,
-    } = read;
-    match end_mistake(options, &parsed, count, &seen)? {
-        Some(mistake) => Ok(Line::Refused(refused_for(options, parsed, mistake))),
-        None => {
-            give_keys(options.positionals(), &mut parsed);
-            let all = with_defaults(alloc, options, &seen, parsed)?;
-            Ok(Line::Parsed(all))
-        }
-    }
-}
-
-// The result for a line of which this was read. It is separate from `Options::read`, which drops
-// the parser, so that both proofs stay cheap.
+// The result for a line of which this was read. It is separate from `read_line`, which drops the
+// parser, so that both proofs stay cheap.
 #[inline(always)]
 pub(crate) fn line_of<'a, F: Drop, V: Copy, P: Copy, M: Drop, S: Drop>(
     alloc: Global,
@@ -682,18 +692,50 @@ pub(crate) fn line_of<'a, F: Drop, V: Copy, P: Copy, M: Drop, S: Drop>(
         read.count read.seen.items read.parsed.items ended.entry v
         → IfOk result (λ line. IsLineRead options.now words line) }
 {
+    let Read {
+        mut parsed,
+        seen,
+        count,
+    } = read;
     match ended {
-        Ended::End => line_at_end(alloc, options, read),
+        Ended::End => match end_mistake(options, &parsed, count, &seen)? {
+            Some(mistake) => Ok(Line::Refused(refused_for(options, parsed, mistake))),
+            None => {
+                give_keys(options.positionals(), &mut parsed);
+                let all = with_defaults(alloc, options, &seen, parsed)?;
+                Ok(Line::Parsed(all))
+            }
+        },
         Ended::Positional(word) => {
             let mistake = Mistake::UnexpectedArgument(word);
-            Ok(Line::Refused(refused_for(options, read.parsed, mistake)))
+            Ok(Line::Refused(refused_for(options, parsed, mistake)))
         }
         Ended::Asked(asked) => Ok(Line::Asked(asked)),
-        Ended::Mistake(mistake) => Ok(Line::Refused(refused_for(options, read.parsed, mistake))),
+        Ended::Mistake(mistake) => Ok(Line::Refused(refused_for(options, parsed, mistake))),
     }
 }
 
+// Reads a whole line by keys.
+fn read_line<'a, F: Copy, V: Copy, P: Copy, M: Copy, S: Copy>(
+    alloc: Global,
+    options: &Options<'a, F, V, P, M, S>,
+    words: Vec<OsString>,
+) -> Result<Line<'a, F, V, P, M, S>, AllocError>
+    ensures { IfOk result (λ line. IsLineRead options.now words.items line) }
+{
+    let room = words.len().min(FIRST_ROOM);
+    let mut parser = options.parser_of(words);
+    let mut read = nothing_read(alloc, room)?;
+    let ended = read_keys(alloc, &mut parser, options, RestStart::Surplus, &mut read)?;
+    line_of(alloc, options, read, ended)
+}
+
 impl<'a, F, V, P, M, S> Options<'a, F, V, P, M, S> {
+    ghost use Rattle.std.specs.Prelude.{◌≡◌};
+    ghost use Rattle.lexopt_line_spec.specs.Readings.{start};
+    ghost use Rattle.lexopt_declaration.specs.Lookups.{help_names};
+    ghost use Rattle.lexopt_options.specs.Declarations.{declaration_of, options_of};
+
     // A parser of these words, none of which has been read, with the `short_equals` of the
     // declaration.
     pub(crate) fn parser_of(&self, words: Vec<OsString>) -> Parser
@@ -713,6 +755,12 @@ impl<'a, F, V, P, M, S> Options<'a, F, V, P, M, S> {
 }
 
 impl<'a, F: Copy, V: Copy, P: Copy, M: Copy, S: Copy> Options<'a, F, V, P, M, S> {
+    ghost use Rattle.std.specs.Prelude.{◌≡◌, ℕ, List, IfOk, map};
+    ghost use Rattle.lexopt_options_spec.specs.Legal as legal;
+    ghost use Rattle.lexopt_options_spec.specs.Legal.{Means};
+    ghost use Rattle.lexopt_options.specs.Declarations.{declaration_of};
+    ghost use Rattle.lexopt_options.specs.Lines.{IsLineOf, IsLineRead};
+
     /// Reads a whole line.
     ///
     /// The words are without the name of the program. This call consumes them. The forms are those
@@ -768,10 +816,6 @@ impl<'a, F: Copy, V: Copy, P: Copy, M: Copy, S: Copy> Options<'a, F, V, P, M, S>
         if words.is_empty() && means_nothing(self) {
             return Ok(Line::Parsed(Vec::new(alloc)));
         }
-        let room = words.len().min(FIRST_ROOM);
-        let mut parser = self.parser_of(words);
-        let mut read = nothing_read(alloc, room)?;
-        let ended = read_keys(alloc, &mut parser, self, RestStart::Surplus, &mut read)?;
-        line_of(alloc, self, read, ended)
+        read_line(alloc, self, words)
     }
 }

@@ -1,8 +1,7 @@
 //! The result of reading a line, and a line that was refused. `read.rt` of `lexopt_commands` has
 //! the result for a line with commands.
-ghost use Rattle.std.specs.Prelude.{◌≡◌, Some};
+ghost use Rattle.std.specs.Prelude.{◌≡◌};
 ghost use Rattle.std.specs.Process.{exit_status};
-ghost use Rattle.lexopt_options.specs.Messages.{message, refusal_text};
 
 use crate::mistake::Mistake;
 use crate::parsed::{Asked, Parsed};
@@ -59,6 +58,9 @@ impl<F: Drop, V: Drop, P: Drop, M: Drop, S: Drop> Refused<'_, F, V, P, M, S> {
 }
 
 impl<F, V, P, M, S> fmt::Display for Refused<'_, F, V, P, M, S> {
+    ghost use Rattle.std.specs.Prelude.{Some};
+    ghost use Rattle.lexopt_options.specs.Messages.{message, refusal_text};
+
     ghost output = { λ refused. Some (refusal_text refused.program.now refused.help
         (message refused.mistake)) };
 
@@ -73,6 +75,9 @@ impl<F, V, P, M, S> fmt::Display for Refused<'_, F, V, P, M, S> {
 }
 
 impl<F, V, P, M, S> fmt::Debug for Refused<'_, F, V, P, M, S> {
+    ghost use Rattle.std.specs.Prelude.{Some};
+    ghost use Rattle.lexopt_options.specs.Messages.{message, refusal_text};
+
     ghost debug_output = { λ refused. Some (refusal_text refused.program.now refused.help
         (message refused.mistake)) };
 

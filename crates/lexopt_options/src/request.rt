@@ -1,5 +1,5 @@
 //! What a program is asked for, by its user or by a shell.
-ghost use Rattle.std.specs.Prelude.{◌≢◌, ℕ, [], List, Option, Some, IfOk, option_map};
+ghost use Rattle.std.specs.Prelude.{◌≢◌, ℕ, [], List, Option, Some};
 ghost use Rattle.lexopt_options.specs.Requests.{IsCompletionRequest, IsRequest};
 
 use lexopt_declaration::shell::{Shell, ShellRequest, variable};
@@ -62,6 +62,9 @@ fn request_by<R: Env>(rt: &R, alloc: Global, name: &str, words: Vec<OsString>) -
 }
 
 impl Request {
+    ghost use Rattle.std.specs.Prelude.{ℕ, IfOk, List, Option, option_map};
+    ghost use Rattle.lexopt_options.specs.Requests.{IsRequest};
+
     /// Returns what a program is asked for, by the value of the variable by which shells ask and by
     /// the words of the command line.
     ///

@@ -183,6 +183,37 @@ pub enum RestCompletion {
     },
 }
 
+// The result of `complete_rest` for the line of this parser, of which nothing is read. `room` is the
+// room of the list of the rest. It is separate from `complete_rest`, which drops the parser, so that
+// both proofs stay cheap.
+fn complete_parsed<F, V, P, M, S>(
+    alloc: Global,
+    parser: &mut Parser,
+    options: &Options<'_, F, V, P, M, S>,
+    begins: RestStart,
+    room: usize,
+    typed: &OsString,
+) -> Result<RestCompletion, AllocError>
+    requires { (words : List (List ℕ))
+        × (parser.old ≡ start (declaration_of options.now).short_equals words) }
+    ensures { (words : List (List ℕ))
+        → parser.old ≡ start (declaration_of options.now).short_equals words
+        → IfOk result (λ found.
+        IsRestCompletion (start_view begins) options.now words typed.now found) }
+{
+    match read_front(alloc, parser, options, begins)? {
+        Begun::Rest(word) => {
+            let rest = words_from(alloc, parser, word, room)?;
+            Ok(RestCompletion::Rest(rest))
+        }
+        Begun::Front(front) => {
+            let begins_rest = options.begins_rest(begins, &front);
+            let text = options.completion_text_after(alloc, &front, typed)?;
+            Ok(RestCompletion::Text { text, begins_rest })
+        }
+    }
+}
+
 /// Returns the rest of the words, as [`read_rest`] finds it, if they have one. Otherwise it returns
 /// what can come where `typed` is typed after them.
 ///
@@ -223,15 +254,5 @@ pub fn complete_rest<F, V, P, M, S>(
 {
     let room = words.len();
     let mut parser = options.parser_of(words);
-    match read_front(alloc, &mut parser, options, begins)? {
-        Begun::Rest(word) => {
-            let rest = words_from(alloc, &mut parser, word, room)?;
-            Ok(RestCompletion::Rest(rest))
-        }
-        Begun::Front(front) => {
-            let begins_rest = options.begins_rest(begins, &front);
-            let text = options.completion_text_after(alloc, &front, typed)?;
-            Ok(RestCompletion::Text { text, begins_rest })
-        }
-    }
+    complete_parsed(alloc, &mut parser, options, begins, room, typed)
 }

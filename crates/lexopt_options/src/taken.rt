@@ -13,9 +13,9 @@ ghost use Rattle.lexopt_options.specs.Declarations.{declaration_of};
 ghost use Rattle.lexopt_options.specs.Keys.{parsed_words};
 ghost use Rattle.lexopt_options.specs.Mistakes.{IsMistake};
 ghost use Rattle.lexopt_options.specs.Taken as taken;
-ghost use Rattle.lexopt_options.specs.Taken.{CanSpare, Fits, IsInvalid, IsRefusalAt};
+ghost use Rattle.lexopt_options.specs.Taken.{CanSpare, Fits, IsInvalid, IsRefusal, IsRefusalAt};
 
-use crate::listed::{accepts, list_of};
+use crate::listed::{accepts, is_listed};
 use crate::mistake::Mistake;
 use crate::options::Options;
 use crate::parsed::Parsed;
@@ -36,8 +36,29 @@ pub fn any_has_list<P>(positionals: &[Positional<'_, P>]) -> bool
 
 // ---- the end of a line
 
+// The mistake that a positional does not accept a word; `None` if it does.
+fn refusal<'a, P>(
+    positional: &'a Positional<'a, P>,
+    word: &OsString,
+) -> Result<Option<Mistake<'a>>, AllocError>
+    ensures { IfOk result (λ found. IsRefusal positional.now word.now found) }
+{
+    match positional.words {
+        Words::Listed(values) => {
+            if is_listed(values, word.as_bytes()) {
+                return Ok(None);
+            }
+            Ok(Some(Mistake::InvalidArgument {
+                placeholder: positional.placeholder,
+                word: word.clone()?,
+                values,
+            }))
+        }
+        Words::Files | Words::Directories | Words::Text => Ok(None),
+    }
+}
+
 // The mistake that the positional at this index does not accept a word; `None` if it does.
-#[tactic(auto, using(crate::proofs::Accepted::at_place))]
 fn refusal_at<'a, P>(
     positionals: &'a [Positional<'a, P>],
     index: usize,
@@ -46,16 +67,7 @@ fn refusal_at<'a, P>(
     ensures { IfOk result (λ found. IsRefusalAt positionals.now index word.now found) }
 {
     match positionals.get(index) {
-        Some(positional) => {
-            if accepts(positional.words, word) {
-                return Ok(None);
-            }
-            Ok(Some(Mistake::InvalidArgument {
-                placeholder: positional.placeholder,
-                word: word.clone()?,
-                values: list_of(positional.words),
-            }))
-        }
+        Some(positional) => refusal(positional, word),
         None => Ok(None),
     }
 }
@@ -105,7 +117,7 @@ pub fn invalid_argument<'a, F, V, P, M, S>(
         × IsMistake (declaration_of options.now) mistake (stops.invalid_argument i word))) }
 {
     // Few programs have positionals with lists.
-    if !options.has_lists {
+    if !options.has_lists() {
         return Ok(None);
     }
     let positionals = options.positionals();

@@ -1,16 +1,12 @@
 //! Mistakes that a program itself finds in what was read, and what is printed about them.
-ghost use Rattle.std.specs.Prelude.{◌≡◌, Some, None};
+ghost use Rattle.std.specs.Prelude.{◌≡◌};
 ghost use Rattle.std.specs.Fmt.{WritesOnOk};
 ghost use Rattle.std.specs.Process.{exit_status};
-ghost use Rattle.lexopt_declaration.specs.Lookups.{names_at, help_names};
-ghost use Rattle.lexopt_options.specs.Declarations.{options_of, declaration_of};
+ghost use Rattle.lexopt_declaration.specs.Lookups.{names_at};
+ghost use Rattle.lexopt_options.specs.Declarations.{options_of};
 ghost use Rattle.lexopt_options.specs.Usage as usage;
 ghost use Rattle.lexopt_options.specs.Usage.{ConvertsFor, for_option, invalid_message};
-ghost use Rattle.lexopt_options.specs.Usage.{value_message, why_message, usage_message, invalid};
-ghost use Rattle.lexopt_options.specs.Usage.{report_status, report_text, value_names, maybe_names};
-ghost use Rattle.lexopt_options.specs.Usage.{values_names};
-ghost use Rattle.lexopt_options.specs.declared.usage.UsageError.TheVariants.{OutOfMemory};
-ghost use Rattle.lexopt_options.specs.declared.usage.UsageError.TheVariants.{Formatted, Text};
+ghost use Rattle.lexopt_options.specs.Usage.{value_message, what_message, why_message};
 
 use crate::options::Options;
 use crate::refused::USAGE_ERROR;
@@ -78,6 +74,9 @@ pub enum UsageError<'a> {
 }
 
 impl fmt::Display for UsageError<'_> {
+    ghost use Rattle.std.specs.Prelude.{Some};
+    ghost use Rattle.lexopt_options.specs.Usage.{usage_message};
+
     ghost output = { λ error. Some (usage_message error) };
 
     fn fmt<W: fmt::Write>(&self, f: &mut fmt::Formatter<W>) -> fmt::Result {
@@ -91,6 +90,9 @@ impl fmt::Display for UsageError<'_> {
 }
 
 impl fmt::Debug for UsageError<'_> {
+    ghost use Rattle.std.specs.Prelude.{Some};
+    ghost use Rattle.lexopt_options.specs.Usage.{usage_message};
+
     ghost debug_output = { λ error. Some (usage_message error) };
 
     fn fmt<W: fmt::Write>(&self, f: &mut fmt::Formatter<W>) -> fmt::Result {
@@ -101,6 +103,9 @@ impl fmt::Debug for UsageError<'_> {
 impl std::error::Error for UsageError<'_> {}
 
 impl From<AllocError> for UsageError<'_> {
+    ghost use Rattle.std.specs.Prelude.{◌≡◌};
+    ghost use Rattle.lexopt_options.specs.declared.usage.UsageError.TheVariants.{OutOfMemory};
+
     ghost from_gives = { λ _ error. error ≡ OutOfMemory };
 
     fn from(_error: AllocError) -> Self {
@@ -109,6 +114,9 @@ impl From<AllocError> for UsageError<'_> {
 }
 
 impl<T: Drop> From<AllocFailed<T>> for UsageError<'_> {
+    ghost use Rattle.std.specs.Prelude.{◌≡◌};
+    ghost use Rattle.lexopt_options.specs.declared.usage.UsageError.TheVariants.{OutOfMemory};
+
     ghost from_gives = { λ _ error. error ≡ OutOfMemory };
 
     fn from(_error: AllocFailed<T>) -> Self {
@@ -117,6 +125,9 @@ impl<T: Drop> From<AllocFailed<T>> for UsageError<'_> {
 }
 
 impl From<Error> for UsageError<'_> {
+    ghost use Rattle.std.specs.Prelude.{◌≡◌, None};
+    ghost use Rattle.lexopt_options.specs.Usage.{invalid};
+
     ghost from_gives = { λ error usage. usage ≡ invalid None error };
 
     /// Makes [`UsageError::Invalid`] of the error, which names no option; and
@@ -128,6 +139,9 @@ impl From<Error> for UsageError<'_> {
 }
 
 impl From<String> for UsageError<'_> {
+    ghost use Rattle.std.specs.Prelude.{◌≡◌};
+    ghost use Rattle.lexopt_options.specs.declared.usage.UsageError.TheVariants.{Formatted};
+
     ghost from_gives = { λ text error. error ≡ Formatted text };
 
     /// Makes [`UsageError::Formatted`] of a text, which is kept whole.
@@ -137,6 +151,9 @@ impl From<String> for UsageError<'_> {
 }
 
 impl<'a> From<&'a str> for UsageError<'a> {
+    ghost use Rattle.std.specs.Prelude.{◌≡◌};
+    ghost use Rattle.lexopt_options.specs.declared.usage.UsageError.TheVariants.{Text};
+
     ghost from_gives = { λ text error. error ≡ Text text };
 
     /// Makes [`UsageError::Text`] of a text, which is kept whole.
@@ -158,6 +175,9 @@ pub struct Report<'a> {
 }
 
 impl Report<'_> {
+    ghost use Rattle.std.specs.Prelude.{◌≡◌};
+    ghost use Rattle.lexopt_options.specs.Usage.{report_status};
+
     /// Returns the status to exit with: 1 after [`UsageError::OutOfMemory`], otherwise
     /// [`USAGE_ERROR`](crate::USAGE_ERROR).
     pub fn status(&self) -> u8
@@ -180,6 +200,9 @@ impl Report<'_> {
 }
 
 impl fmt::Display for Report<'_> {
+    ghost use Rattle.std.specs.Prelude.{Some};
+    ghost use Rattle.lexopt_options.specs.Usage.{report_text};
+
     ghost output = { λ report. Some (report_text report) };
 
     /// Writes the name of the program and the mistake; and on a second line where the help is, if
@@ -196,6 +219,9 @@ impl fmt::Display for Report<'_> {
 }
 
 impl fmt::Debug for Report<'_> {
+    ghost use Rattle.std.specs.Prelude.{Some};
+    ghost use Rattle.lexopt_options.specs.Usage.{report_text};
+
     ghost debug_output = { λ report. Some (report_text report) };
 
     fn fmt<W: fmt::Write>(&self, f: &mut fmt::Formatter<W>) -> fmt::Result {
@@ -210,6 +236,17 @@ fn invalid<'a>(option: Option<Names<'a>>, error: Error) -> UsageError<'a>
     match error {
         Error::OutOfMemory => UsageError::OutOfMemory,
         error => UsageError::Invalid { option, error },
+    }
+}
+
+// Writes that a value is invalid, and the value if the error has it.
+fn write_what<W: fmt::Write>(error: &Error, f: &mut fmt::Formatter<W>) -> fmt::Result
+    ensures { WritesOnOk W.write_str_gives f.old result (what_message error.now) f.new }
+{
+    match error {
+        Error::ParsingFailed { value, .. } => write_value(value.as_bytes(), f),
+        Error::NonUnicodeValue(value) => write_value(value.as_bytes(), f),
+        _ => f.write_str("invalid value"),
     }
 }
 
@@ -251,12 +288,10 @@ fn write_message<W: fmt::Write>(
     ensures { WritesOnOk W.write_str_gives f.old result (invalid_message option.entry error.now)
         f.new }
 {
-    match error {
-        Error::OutOfMemory => return write_no_memory(f),
-        Error::ParsingFailed { value, .. } => write_value(value.as_bytes(), f)?,
-        Error::NonUnicodeValue(value) => write_value(value.as_bytes(), f)?,
-        _ => f.write_str("invalid value")?,
+    if matches!(error, Error::OutOfMemory) {
+        return write_no_memory(f);
     }
+    write_what(error, f)?;
     write_option(option, f)?;
     write_why(error, f)
 }
@@ -311,6 +346,9 @@ where
 }
 
 impl<'a, F, V: Copy + PartialEq, P, M, S> Options<'a, F, V, P, M, S> {
+    ghost use Rattle.lexopt_options.specs.Declarations.{options_of};
+    ghost use Rattle.lexopt_options.specs.Usage.{ConvertsFor, value_names};
+
     /// Converts a value of the option with this key, by the type's `FromStr`.
     ///
     /// # Errors
@@ -362,6 +400,9 @@ impl<'a, F, V: Copy + PartialEq, P, M, S> Options<'a, F, V, P, M, S> {
 }
 
 impl<'a, F, V, P, M: Copy + PartialEq, S> Options<'a, F, V, P, M, S> {
+    ghost use Rattle.lexopt_options.specs.Declarations.{options_of};
+    ghost use Rattle.lexopt_options.specs.Usage.{ConvertsFor, maybe_names};
+
     /// Converts the value of an option whose value may be left out, as [`Options::parse_value`]
     /// does. It returns the errors of that call, for the first such option with this key.
     pub fn parse_maybe<T: FromStr>(&self, key: M, word: &OsString) -> Result<T, UsageError<'a>>
@@ -379,6 +420,9 @@ impl<'a, F, V, P, M: Copy + PartialEq, S> Options<'a, F, V, P, M, S> {
 }
 
 impl<'a, F, V, P, M, S: Copy + PartialEq> Options<'a, F, V, P, M, S> {
+    ghost use Rattle.lexopt_options.specs.Declarations.{options_of};
+    ghost use Rattle.lexopt_options.specs.Usage.{ConvertsFor, values_names};
+
     /// Converts one of the values of an option of several values, as [`Options::parse_value`] does.
     /// It returns the errors of that call, for the first such option with this key.
     pub fn parse_values<T: FromStr>(&self, key: S, word: &OsString) -> Result<T, UsageError<'a>>
@@ -396,6 +440,10 @@ impl<'a, F, V, P, M, S: Copy + PartialEq> Options<'a, F, V, P, M, S> {
 }
 
 impl<'a, F, V, P, M, S> Options<'a, F, V, P, M, S> {
+    ghost use Rattle.std.specs.Prelude.{◌≡◌};
+    ghost use Rattle.lexopt_declaration.specs.Lookups.{help_names};
+    ghost use Rattle.lexopt_options.specs.Declarations.{declaration_of, options_of};
+
     /// Returns what to print about a mistake that the program found. [`Report::print`] prints it.
     ///
     /// # Examples

@@ -1,6 +1,6 @@
 -- What is wrong with each of some options.
 use Rattle.lexopt_options_spec.proofs.Common.{◌≡◌, ℕ, zero, suc, ◌+◌, ◌<◌, ◌≤◌, Bool, true, false, ◌&&◌, List, [], ◌∷◌, ◌++◌, length, take, get_or, Option, Some, None, is_none, if◌then◌else◌, refl}
-use Rattle.lexopt_options_spec.proofs.Common.{sym, ap, ◌∙◌, arith, append-nil, append_assoc, cond, list_all, list_any}
+use Rattle.lexopt_options_spec.proofs.Common.{sym, ap, ◌∙◌, arith, append-nil, append_assoc, cond, list_all, list_any, false≢true}
 use Rattle.std.proofs.lemmas.List.Folds.{list_all_more}
 use Rattle.std.proofs.lemmas.List.{take_all}
 use Rattle.std.proofs.lemmas.List.Sums.{AllPass-from_list_all}
@@ -33,14 +33,20 @@ sound_all os n all so = sym (ap (list_all is_none) (take_all n (faults [] os) (o
 -- ---- one option
 
 pub no_fault : (f : Option Reason) → is_none f ≡ true → f ≡ None
-no_fault f is = grind arith
+no_fault None is = refl
+no_fault (Some r) is = absurd (false≢true is)
 
 pub neither : (a b : Option Reason) → or_else a b ≡ None → (a ≡ None) × (b ≡ None)
-neither a b is = grind arith
+neither None b is = (refl, is)
+neither (Some r) b is = absurd (let e : Some r ≡ None = is in cc)
 
 pub passes : (b : Bool) (r : Reason) → cond b None (Some r) ≡ None → b ≡ true
 passes true r is = refl
 passes false r is = absurd (let e : Some r ≡ None = is in cc)
+
+not_if : (b : Bool) (r : Reason) → (if b then Some r else None) ≡ None → b ≡ false
+not_if false r is = refl
+not_if true r is = absurd (let e : Some r ≡ None = is in cc)
 
 -- nothing is wrong with an option after these
 pub record IsFaultless (before : List Declared) (o : Declared) : Type 0 where
@@ -53,7 +59,14 @@ pub record IsFaultless (before : List Declared) (o : Declared) : Type 0 where
   pub alone : list_any (shares_name o) before ≡ false
 
 pub faultless : (before : List Declared) (o : Declared) → fault before o ≡ None → IsFaultless before o
-faultless before o none = grind (arith, neither)
+faultless before o none =
+    let a = neither (names_fault name_fault (all_names o)) _ none in
+    let b = neither (placeholder_fault o.kind o.placeholder) _ a.1 in
+    let c = neither (list_fault o.words) _ b.1 in
+    let d = neither (default_fault o) _ c.1 in
+    let e = neither (label_fault before o.beside (name_beside o.beside o.short_name o.long_name)) _ d.1 in
+    let f = neither (exclusive_fault o.required o.exclusive) _ e.1 in
+    record { names = a.0; value = b.0; words = c.0; default = d.0; label = e.0; exclusive = f.0; alone = not_if (list_any (shares_name o) before) same_name f.1 }
 
 -- an option of a sound list is faultless
 pub faultless_at : (options : List Declared) (i : ℕ) (d : Declared) → is_sound options ≡ true → i < length options → IsFaultless (take i options) (get_or options i d)

@@ -1,5 +1,5 @@
 -- What words mean, and where their reading stops.
-use Rattle.lexopt_options_spec.proofs.Common.{◌≡◌, ◌≤◌, ℕ, ◌+◌, suc, Bool, true, List, [], ◌∷◌, ◌++◌, map, Option, Some, None, is_none, refl, sym, ap, subst, ◌∙◌, arith, append-nil}
+use Rattle.lexopt_options_spec.proofs.Common.{◌≡◌, ◌≤◌, ℕ, ◌+◌, suc, Bool, true, List, [], ◌∷◌, ◌++◌, map, Option, Some, None, is_none, refl, sym, ap, subst, ◌∙◌, arith, append-nil, option_map}
 use Rattle.lexopt_options_spec.proofs.Common.{and_parts, false≢true, IsLine, UnreadLine, next, Item, Name, Table, kind, IsReading, ReadsItems, item_after, items_of_replies, option_reply, start}
 use Rattle.lexopt_options_spec.proofs.Common.{Spells, shown_spells, spelled_shows, option_reading, some_reading, says_items, says_positional, reads_last, reads_refused, step_line, said_shows}
 use Rattle.lexopt_options_spec.proofs.Common.{shown_read, shown_said, Declaration, Declared, index_of, is_sound, table, Parsed, parsed_item, positional, positional_count, positional_words, occurs}
@@ -7,26 +7,34 @@ use Rattle.lexopt_options_spec.proofs.Common.{most, IsWithin, MeansFront, Means,
 use Rattle.lexopt_options_spec.proofs.Common.{not_accepted, one_too_many, too_few, not_taken, not_complete, StopsAt, missing_value, unexpected_argument, unexpected_value, unknown_option, Reply, Next}
 use Rattle.lexopt_options_spec.proofs.Common.{IsOf}
 use Rattle.lexopt_options_spec.proofs.Common.{clash, not_apart}
-use Rattle.std.proofs.lemmas.List.Folds.{list_all-append}
 use Rattle.lexopt_spec.specs.Steps as steps
 use Rattle.lexopt_line_spec.specs.Table as spec
 use Rattle.lexopt_line_spec.proofs.Existence.{only_one}
 use Rattle.lexopt_options_spec.proofs.ReadItems.{ReadsAll, all_read}
 use Rattle.lexopt_options_spec.proofs.Sound.{whole_names}
-use Rattle.lexopt_options_spec.proofs.Taken.{not_both}
+use Rattle.lexopt_options_spec.proofs.Taken.{not_both, zero_within}
 use Rattle.lexopt_options_spec.proofs.Lists.{Later, split, first_none, first_is, same_somes, count_append}
 
 -- nothing is read yet
 pub nothing_read : (d : Declaration) (u : UnreadLine) → IsLine u → ReadsUpTo d u [] u
-nothing_read d u line = grind arith
+nothing_read d u line = record {
+  items = [];
+  read = refl;
+  line = line;
+  parsed = refl;
+  within = zero_within (most d.positionals);
+}
 
 -- ---- an option by its name
 
 pub item_of : (name : Name) (replies : List Reply) → IsOf name (item_after name replies)
-item_of name replies = grind arith
+item_of name (steps.taken word ∷ replies) = refl
+item_of name replies = refl
 
 pub undeclared : (options : List Declared) (name : Name) (item : Item) → IsOf name item → index_of options name ≡ None → parsed_item options item ≡ None
-undeclared options name item is none = grind arith
+undeclared options name (spec.option other value) is none = ap (option_map (λ i. _)) (ap (index_of options) is ∙ none)
+undeclared options name (spec.many other values) is none = ap (option_map (λ i. _)) (ap (index_of options) is ∙ none)
+undeclared options name (spec.positional word) is none = absurd is
 
 -- ---- what is read is one list
 
@@ -50,7 +58,12 @@ read_spells d sound words items l v w reads ends parsed =
 
 -- and mean it
 pub whole_front : (d : Declaration) (words : List (List ℕ)) (l : List Parsed) (v w : UnreadLine) → is_sound d.options ≡ true → ReadsUpTo d (start d.short_equals words) l v → Next v steps.end w → MeansFront d words l
-whole_front d words l v w sound read ends = search (read_spells)
+whole_front d words l v w sound read ends = record {
+  items = read.items;
+  spelled = read_spells d sound words read.items l v w read.read ends read.parsed;
+  parsed = read.parsed;
+  within = read.within;
+}
 
 -- ---- words whose reading stops mean nothing
 
@@ -124,7 +137,10 @@ front_is d words before u v read step l means =
 
 -- if all values are accepted, none is refused
 pub not_refused : (options : List Declared) (before : List Parsed) (s : Parsed) (rest : List Parsed) (value : List ℕ) → are_accepted options (before ++ s ∷ rest) ≡ true → refused_value options s ≡ Some value → ⊥
-not_refused options before s rest value accepted refused = grind (arith, later, and_parts, are_accepted, list_all-append, is_none, refused_value, true)
+not_refused options [] s rest value accepted refused =
+    let parts = and_parts (is_none (refused_value options s)) (are_accepted options rest) accepted in false≢true (sym (ap is_none refused) ∙ parts.0)
+not_refused options (b ∷ before) s rest value accepted refused =
+    let parts = and_parts (is_none (refused_value options b)) (are_accepted options (before ++ s ∷ rest)) accepted in not_refused options before s rest value parts.1 refused
 
 stops_whole : (d : Declaration) (words : List (List ℕ)) (before : List Parsed) (mistake : Mistake) (u : UnreadLine) → ReadsUpTo d (start d.short_equals words) before u → Stops d before u mistake
     → (l : List Parsed) → Means d words l → ⊥
@@ -156,7 +172,9 @@ nothing_parsed d words before mistake at l means = stops_whole d words before mi
 
 -- what words spell is read up to their end
 pub spelled_read : (t : Table) (short_equals : Bool) (words : List (List ℕ)) (items : List Item) → Spells t short_equals words items → (after : UnreadLine) × ReadsAll t (start short_equals words) items after
-spelled_read t short_equals words items spelled = grind (arith, shown_read, spelled_shows, all_read)
+spelled_read t short_equals words items spelled =
+    let reading = shown_read t short_equals words items (spelled_shows t short_equals words items spelled) in
+    (reading.after, all_read t (start short_equals words) items reading)
 
 -- the words spell m, and l is read up to the line u: the rest is read from there
 pub record Rest (d : Declaration) (l m : List Parsed) (u : UnreadLine) : Type 0 where

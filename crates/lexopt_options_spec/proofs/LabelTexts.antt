@@ -1,5 +1,4 @@
 -- The texts by which labels show their forms.
-use Rattle.std.proofs.Common.{arith}
 use Rattle.lexopt_options_spec.proofs.Common.{◌≡◌, ℕ, List, [], ◌∷◌, ◌++◌, ◌⊎◌, inl, inr, Option, Some, None, codes, encode_utf8, refl, sym, ap, subst, ◌∙◌, append_assoc, append-nil, equals, Beside}
 use Rattle.lexopt_options_spec.proofs.Common.{Declared, a_flag, LabelForm, short_flag, short_one, short_optional, short_optional_value, short_several, long_flag, long_one, long_optional}
 use Rattle.lexopt_options_spec.proofs.Common.{long_optional_value, long_several, flag_beside, negated_flag}
@@ -32,6 +31,14 @@ short_alone b k c value = refl
 short_before : (k : Kind) (c : ℕ) (name value : List ℕ) → short_text k c (Some name) value ≡ short_word c (before_long k value)
 short_before flag c name value = refl
 short_before k c name value = refl
+
+long_alone : (b : Beside) (k : Kind) (name value : List ℕ) → label_of b None (Some name) k value ≡ before_alone b ++ long_text b k name value
+long_alone b k name value = ap (λ text. before_alone b ++ text) (sym (after_name b k name value))
+
+with_both : (b : Beside) (k : Kind) (c : ℕ) (name value : List ℕ) → label_of b (Some c) (Some name) k value ≡ short_text k c (Some name) value ++ codes ", " ++ long_text b k name value
+with_both b k c name value = sym
+    (ap (λ text. (text ++ codes ", ") ++ long_text b k name value) (short_before k c name value)
+    ∙ ap (λ text. (short_word c (before_long k value) ++ codes ", ") ++ text) (after_name b k name value))
 
 -- ---- what an option can spell
 
@@ -69,11 +76,14 @@ module _ (o : Declared) where
   abbrev name_shown : List ℕ → List ℕ
   name_shown name = long_text o.beside o.kind name o.placeholder
 
+  is_short : (c : ℕ) → o.short_name ≡ Some c → o.long_name ≡ None → label o ≡ short_shown c
+  is_short c named none = rw (named, none) (short_alone o.beside o.kind c o.placeholder)
+
   is_long : (name : List ℕ) → o.short_name ≡ None → o.long_name ≡ Some name → label o ≡ before_alone o.beside ++ name_shown name
-  is_long name none named = rw (none, named) (ap (λ text. before_alone o.beside ++ text) (sym (after_name o.beside o.kind name o.placeholder)))
+  is_long name none named = rw (none, named) (long_alone o.beside o.kind name o.placeholder)
 
   is_both : (c : ℕ) (name : List ℕ) → o.short_name ≡ Some c → o.long_name ≡ Some name → label o ≡ short_shown c ++ codes ", " ++ name_shown name
-  is_both c name short_named long_named = rw (short_named, long_named) (grind (arith, codes, short_before, after_name))
+  is_both c name short_named long_named = rw (short_named, long_named) (with_both o.beside o.kind c name o.placeholder)
 
   -- ---- what each name shows
 
@@ -100,16 +110,19 @@ module _ (o : Declared) where
   short_shows : (c : ℕ) → o.short_name ≡ Some c → ShowsName o (short c) (short_shown c)
   short_shows c named = λ item can only. short_by c o.kind named refl item (one_of o.kind (short c) o.placeholder item can only)
 
+  long_shows : (name : List ℕ) → o.long_name ≡ Some name → ShowsName o (long name) (name_shown name)
+  long_shows name named = λ item can only. long_by name o.kind named refl item (one_of o.kind (long name) o.placeholder item can only)
+
   pub shows_short : (c : ℕ) → o.short_name ≡ Some c → o.long_name ≡ None → ShowsName o (short c) (label o)
-  shows_short c named none = subst (ShowsName o (short c)) (sym (rw (named, none) (short_alone o.beside o.kind c o.placeholder))) (short_shows c named)
+  shows_short c named none = subst (ShowsName o (short c)) (sym (is_short c named none)) (short_shows c named)
 
   pub shows_long : (name : List ℕ) → o.short_name ≡ None → o.long_name ≡ Some name → (shown : List ℕ) × ShowsName o (long name) shown × (label o ≡ before_alone o.beside ++ shown)
-  shows_long name none named = (name_shown name, (λ item can only. long_by name o.kind named refl item (one_of o.kind (long name) o.placeholder item can only)), is_long name none named)
+  shows_long name none named = (name_shown name, long_shows name named, is_long name none named)
 
   pub shows_both : (c : ℕ) (name : List ℕ) → o.short_name ≡ Some c → o.long_name ≡ Some name
       → (first : List ℕ) × (second : List ℕ) × ShowsName o (short c) first × ShowsName o (long name) second × (label o ≡ first ++ codes ", " ++ second)
   shows_both c name short_named long_named =
-      (short_shown c, name_shown name, short_shows c short_named, (λ item can only. long_by name o.kind long_named refl item (one_of o.kind (long name) o.placeholder item can only)), is_both c name short_named long_named)
+      (short_shown c, name_shown name, short_shows c short_named, long_shows name long_named, is_both c name short_named long_named)
 
   -- ---- where each form occurs
 
@@ -120,7 +133,7 @@ module _ (o : Declared) where
   short_occurs c k named is = subst (λ (x : Kind). Occurs (short_text x c o.long_name o.placeholder)) is (by o.long_name refl)
     where
       by : (other : Option (List ℕ)) → o.long_name ≡ other → Occurs (short_shown c)
-      by None none = ([], [], (rw (named, none) (short_alone o.beside o.kind c o.placeholder)) ∙ sym (append-nil (short_shown c)))
+      by None none = ([], [], is_short c named none ∙ sym (append-nil (short_shown c)))
       by (Some name) long_named = ([], codes ", " ++ name_shown name, is_both c name named long_named ∙ append_assoc (short_shown c) (codes ", ") (name_shown name))
 
   -- the text of a long name is the end of the label

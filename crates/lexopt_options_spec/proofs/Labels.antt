@@ -1,7 +1,8 @@
 -- Words spell each form that a label shows.
-use Rattle.lexopt_options_spec.proofs.Common.{and_parts, All-cons, All-nil, Any-from_list_any, IsScalar, dash, equals, BeginsWith, IsPlain, IsText}
-use Rattle.std.proofs.Common.{◌≡◌, ◌≢◌, ℕ, ◌<◌, ◌&&◌, Bool, true, false, cond, List, [], ◌∷◌, ◌++◌, Option, Some, None, codes, encode_utf8, get_or-take, length-take-le, take, suc, zero, lit<, refl, sym, subst, ◌∙◌, arith, inr, true≢false}
+use Rattle.lexopt_options_spec.proofs.Common.{eq-eqb, and_parts, eqb-false, not-true, All-cons, All-nil, Any-from_list_any, IsScalar, replacement, dash, equals, BeginsWith, IsPlain, IsText}
+use Rattle.std.proofs.Common.{◌≡◌, ◌≢◌, ℕ, ◌<◌, ◌==◌, ◌&&◌, not, Bool, true, false, cond, List, [], ◌∷◌, ◌++◌, Option, Some, None, codes, encode_utf8, get_or-take, length-take-le, take, suc, zero, lit<, refl, sym, ap, subst, ◌∙◌, arith, inr, true≢false}
 use Rattle.std.specs.Prelude.{Contains}
+use Rattle.std.specs.List.{All}
 use Rattle.std.proofs.lemmas.Str.{IsUtf8-append, IsUtf8-from_ascii}
 use Rattle.std.specs.Str.{IsAscii, IsUtf8}
 use Rattle.lexopt_line_spec.specs.Table.{short, long, Name, Item, many, option, Kind, flag, one, optional, several, Table, kind}
@@ -11,7 +12,7 @@ use Rattle.lexopt_options_spec.specs.Declaration.{Declared, all_names, has_name,
 use Rattle.lexopt_options_spec.specs.Declaration as besides
 use Rattle.lexopt_options_spec.specs.Help.{LabelForm, short_flag, short_one, short_optional, short_optional_value, short_several, long_flag, long_one, long_optional, long_optional_value, long_several, flag_beside, negated_flag, short_word, long_word, HasTextNames}
 use Rattle.lexopt_options_spec.proofs.Tables.{kind_of_name, long_named, short_named}
-use Rattle.lexopt_options_spec.proofs.FaultLemmas.{IsFaultless, faultless_at}
+use Rattle.lexopt_options_spec.proofs.FaultLemmas.{IsFaultless, faultless_at, passes}
 use Rattle.lexopt_options_spec.proofs.Sound.{names_fine}
 
 -- ---- what a sound declaration means for one option
@@ -24,10 +25,12 @@ name_good : (options : List Declared) (o : Declared) → is_sound options ≡ tr
 name_good options o sound there name has = names_fine (all_names o) name (at_place options o sound there).names has
 
 no_dash : (c : ℕ) → short_fault c ≡ None → c ≢ dash
-no_dash c fine is = grind arith
+no_dash c fine is =
+    let e : Some dash_name ≡ None = sym (ap (λ b. cond b (Some dash_name) (cond (c == replacement) (Some replacement_in_name) (cond (is_blank_or_control c) (Some blank_or_control_in_name) None))) (eq-eqb c dash is)) ∙ fine in cc
 
 some_name : (name : List ℕ) → long_fault name ≡ None → name ≢ []
-some_name name fine is = grind arith
+some_name [] fine is = let e : Some empty_name ≡ None = fine in cc
+some_name (b ∷ bs) fine is = cc
 
 free : (b : Bool) (rest : Option Reason) → cond b (Some equals_in_name) rest ≡ None → b ≡ false
 free true rest e = let f : Some equals_in_name ≡ None = e in cc
@@ -43,9 +46,18 @@ record IsValue (value : List ℕ) : Type 0 where
   no_option : ¬ BeginsWith dash value
   no_mark : ¬ BeginsWith equals value
 
+is_value : (value : List ℕ) → is_placeholder value ≡ true → IsValue value
+is_value [] e = absurd (true≢false (sym e))
+is_value (b ∷ bs) e =
+    let parts = and_parts (not (b == dash)) (not (b == equals)) e in
+    record { some = λ is. cc; no_option = eqb-false b dash (not-true _ parts.0); no_mark = eqb-false b equals (not-true _ parts.1) }
+
 value_of : (k : Kind) (value : List ℕ) → placeholder_fault k value ≡ None → k ≢ flag → IsValue value
 value_of flag value fine some = absurd (some refl)
-value_of k value fine some = grind arith
+value_of k value fine some = is_value value (passes (is_placeholder value) bad_placeholder fine)
+
+one_plain : (word : List ℕ) → IsPlain false word → All (IsPlain false) (word ∷ [])
+one_plain word plain = All-cons (IsPlain false) word [] plain (All-nil (IsPlain false))
 
 -- ---- a line with only one option
 
@@ -88,7 +100,8 @@ flag_spelled t e (long name) text good is =
 
 -- the flag that a label shows is among the options before
 pub flag_there : (before : List Declared) (b : Beside) (name : Name) → b ≢ besides.nothing → label_fault before b (Some name) ≡ None → have_flag before (Some name) ≡ true
-flag_there before b name some none = grind arith
+flag_there before besides.nothing name some none = absurd (some refl)
+flag_there before b name some none = passes _ bad_label none
 
 is_a_flag : (k : Kind) → is_flag k ≡ true → k ≡ flag
 is_a_flag flag is = refl
@@ -100,6 +113,12 @@ module _ (options : List Declared) (o : Declared) (e : Bool) (sound : is_sound o
   fine : (name : Name) → has_name name o ≡ true → name_fault name ≡ None
   fine = name_good options o sound there
 
+  short_kind : (c : ℕ) (k : Kind) → o.short_name ≡ Some c → o.kind ≡ k → kind (table options) (short c) ≡ k
+  short_kind c k named is = kind_of_name options o sound there (short c) (short_named o c named) ∙ is
+
+  long_kind : (name : List ℕ) (k : Kind) → o.long_name ≡ Some name → o.kind ≡ k → kind (table options) (long name) ≡ k
+  long_kind name k named is = kind_of_name options o sound there (long name) (long_named o name named) ∙ is
+
   value : (k : Kind) → o.kind ≡ k → k ≢ flag → IsValue o.placeholder
   value k is some = value_of o.kind o.placeholder (at_place options o sound there).value (λ none. some (sym is ∙ none))
 
@@ -108,22 +127,25 @@ module _ (options : List Declared) (o : Declared) (e : Bool) (sound : is_sound o
       → Completes k (short c) after others item [] → Spells (table options) e (short_word c bytes ∷ others) (item ∷ [])
   short_form c k bytes others after item named is behind done =
       short_parsed (table options) e c bytes others after item (texts.short_scalar c named) (no_dash c (fine (short c) (short_named o c named))) behind
-      (subst (λ (x : Kind). Completes x (short c) after others item []) (sym (kind_of_name options o sound there (short c) (short_named o c named) ∙ is)) done)
+      (subst (λ (x : Kind). Completes x (short c) after others item []) (sym (short_kind c k named is)) done)
 
   -- a long name, and what comes after it
   long_form : (name : List ℕ) (k : Kind) (text : List ℕ) (others : List (List ℕ)) (after : After) (item : Item) → o.long_name ≡ Some name → o.kind ≡ k → IsLong text name after
       → Completes k (long name) after others item [] → Spells (table options) e ((dash ∷ dash ∷ text) ∷ others) (item ∷ [])
   long_form name k text others after item named is behind done =
       long_parsed (table options) e name text others after item (texts.long_text name named) (no_equals_in name (fine (long name) (long_named o name named))) behind
-      (subst (λ (x : Kind). Completes x (long name) after others item []) (sym (kind_of_name options o sound there (long name) (long_named o name named) ∙ is)) done)
+      (subst (λ (x : Kind). Completes x (long name) after others item []) (sym (long_kind name k named is)) done)
 
   alone : (name : List ℕ) → o.long_name ≡ Some name → IsLong name name nothing
   alone name named = name_alone (some_name name (fine (long name) (long_named o name named))) refl refl
 
+  attached_here : (k : Kind) → o.kind ≡ k → k ≢ flag → IsAfterLast e o.placeholder (attached o.placeholder)
+  attached_here k is some = let v = value k is some in a_value v.some (λ mark. v.no_mark mark.1) refl
+
   only_value : {name : Name} → o.kind ≡ several → Completes several name nothing (o.placeholder ∷ []) (many name (o.placeholder ∷ [])) []
   only_value is =
       several_words (o.placeholder ∷ []) refl
-      (record { words_are = refl; plain = All-cons (IsPlain false) o.placeholder [] (inr (inr ((value several is (λ same. cc)).no_option))) (All-nil (IsPlain false)); longest = λ none. none }) (λ same. cc) refl
+      (record { words_are = refl; plain = one_plain o.placeholder (inr (inr ((value several is (λ same. cc)).no_option))); longest = λ none. none }) (λ same. cc) refl
 
   -- the flag that the label shows
   flag_form : (name : Name) → name_beside o.beside o.short_name o.long_name ≡ Some name → o.beside ≢ besides.nothing → IsText name → Spells (table options) e (word_of name ∷ []) (option name None ∷ [])
@@ -145,7 +167,7 @@ module _ (options : List Declared) (o : Declared) (e : Bool) (sound : is_sound o
   form_spelled shown words item (short_optional c named is) =
       short_form c optional [] [] nothing _ named is (nothing_more refl refl) (no_optional refl refl refl)
   form_spelled shown words item (short_optional_value c named is) =
-      short_form c optional o.placeholder [] (attached o.placeholder) _ named is (let v = value optional is (λ same. cc) in a_value v.some (λ mark. v.no_mark mark.1) refl) (attached_optional o.placeholder refl refl refl)
+      short_form c optional o.placeholder [] (attached o.placeholder) _ named is (attached_here optional is (λ same. cc)) (attached_optional o.placeholder refl refl refl)
   form_spelled shown words item (short_several c named is) =
       short_form c several [] (o.placeholder ∷ []) nothing _ named is (nothing_more refl refl)
       (only_value is)

@@ -41,7 +41,8 @@ split f xs ys before all is whole =
 -- two lists, one after the other
 pub both_are : {X Y : Type 0} (f : X → Option Y) (xs xs' : List X) (ys ys' : List Y) → map f xs ≡ map (λ y. Some y) ys → map f xs' ≡ map (λ y. Some y) ys'
     → map f (xs ++ xs') ≡ map (λ y. Some y) (ys ++ ys')
-both_are f xs xs' ys ys' is other = grind (arith, map-append)
+both_are f xs xs' ys ys' is other =
+    map-append f xs xs' ∙ ap (λ l. l ++ map f xs') is ∙ ap (λ l. map (λ y. Some y) ys ++ l) other ∙ sym (map-append (λ y. Some y) ys ys')
 
 -- one more element at the end
 pub joined : {X Y : Type 0} (f : X → Option Y) (xs : List X) (ys : List Y) (x : X) (y : Y) → map f xs ≡ map (λ y. Some y) ys → f x ≡ Some y
@@ -51,7 +52,9 @@ joined f xs ys x y is one = both_are f xs (x ∷ []) ys (y ∷ []) is (ap (λ z.
 -- there is no list with this first element
 pub first_none : {X Y : Type 0} (f : X → Option Y) (x : X) (xs : List X) (l : List Y) → f x ≡ None → map f (x ∷ xs) ≡ map (λ y. Some y) l → ⊥
 first_none f x xs [] none is = let e : f x ∷ map f xs ≡ [] = is in cc
-first_none f x xs (y ∷ l) none is = grind arith
+first_none f x xs (y ∷ l) none is =
+    let p = first_same (f x) (Some y) (map f xs) (map (λ y. Some y) l) is in
+    let e : None ≡ Some y = sym none ∙ p.0 in cc
 
 -- the first element of such a list
 pub first_is : {X Y : Type 0} (f : X → Option Y) (x : X) (y : Y) (xs : List X) (l : List Y) → f x ≡ Some y → map f (x ∷ xs) ≡ map (λ y. Some y) l

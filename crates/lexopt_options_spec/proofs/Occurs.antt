@@ -1,5 +1,5 @@
 -- Where an option can come.
-use Rattle.lexopt_options_spec.proofs.Common.{and_from, false≢true, or_right, append-nil, get_or_from_slice_get, slice_get_within, ◌≡◌, ◌≢◌, ◌<◌, ◌≤◌, ◌+◌, ◌==◌, ◌||◌, is_none, unwrap_or, ℕ, zero, suc, Bool}
+use Rattle.lexopt_options_spec.proofs.Common.{and_from, eq-eqb, false≢true, or_right, append-nil, get_or_from_slice_get, slice_get_within, ◌≡◌, ◌≢◌, ◌<◌, ◌≤◌, ◌+◌, ◌==◌, ◌||◌, is_none, unwrap_or, ℕ, zero, suc, Bool}
 use Rattle.lexopt_options_spec.proofs.Common.{true, false, List, [], ◌∷◌, ◌++◌, map, length, slice_get, slice_index_or, Some, None, encode_utf8, refl, sym, ap, subst, ◌∙◌, arith, inr, length-append}
 use Rattle.lexopt_options_spec.proofs.Common.{option_map, dash, BeginsWith, IsPlain, IsNormalIn, Name, short, long, Item, Kind, flag, one, optional, several, kind, Table, Declaration, Declared}
 use Rattle.lexopt_options_spec.proofs.Common.{has_name, index_of, is_sound, table, AreTaken, least, CanBeTaken, IsScalar}
@@ -19,7 +19,7 @@ use Rattle.lexopt_options_spec.proofs.Fronts.{same_parsed}
 use Rattle.lexopt_options_spec.proofs.Lists.{both_are, first_same}
 use Rattle.lexopt_options_spec.proofs.Listed.{accepted_append, accepted_front, accepts_here, list_good, one_accepted, single_accepted, value_fits, value_for, value_plain}
 use Rattle.lexopt_options_spec.proofs.Sound.{IsGoodName, found, good, option_there}
-use Rattle.lexopt_options_spec.proofs.Tables.{index_there}
+use Rattle.lexopt_options_spec.proofs.Tables.{index_there, kind_of_name}
 use Rattle.lexopt_options_spec.proofs.Taken.{AreFilled, can_be_taken, words_append, words_count, words_same}
 use Rattle.lexopt_options_spec.proofs.OpenLines.{Parts, open_to_the_end, past_separator, dashes, parts}
 
@@ -27,6 +27,10 @@ use Rattle.lexopt_options_spec.proofs.OpenLines.{Parts, open_to_the_end, past_se
 
 encoded_some : (c : ℕ) → IsScalar c → encode_utf8 c ≢ []
 encoded_some c scalar none = some_bytes c [] scalar (ap (λ (l : List ℕ). l ++ []) none)
+
+not_normal : (name : Name) → IsText name → (rest : List (List ℕ)) → ¬ IsNormalIn false (spelling name ∷ rest)
+not_normal (short c) is rest = not_plain (encode_utf8 c) (encoded_some c is)
+not_normal (long name) is rest = not_plain (dash ∷ name) (λ same. let e : dash ∷ name ≡ [] = same in cc)
 
 pub dashes_calm : (rest : List (List ℕ)) → ¬ IsNormalIn false (dashes ∷ rest)
 dashes_calm rest = not_plain (dash ∷ []) (λ same. let e : dash ∷ [] ≡ [] = same in cc)
@@ -65,6 +69,12 @@ spelled_group t on (long name) v tail text is plain calm =
     lines.long_option name name name nothing (item_for (kind t (long name)) v (long name)) (values_of (kind t (long name)) v ++ tail) refl (name_alone is.0 refl refl) is.1 (text, refl)
     (completed (kind t (long name)) v (long name) tail plain calm) refl
 
+-- the option, and then a line
+spelled_line : (t : Table) (on : Bool) (name : Name) (v : List ℕ) (tail : List (List ℕ)) (items : List Item) → IsText name → IsGoodName name → ¬ BeginsWith dash v → ¬ IsNormalIn false tail → Line exact t on tail items
+    → Line exact t on (spelling name ∷ values_of (kind t name) v ++ tail) (item_for (kind t name) v name ∷ items)
+spelled_line t on name v tail items text is plain calm line =
+    group (spelling name ∷ values_of (kind t name) v ++ tail) tail (item_for (kind t name) v name ∷ []) items (spelled_group t on name v tail text is plain calm) line
+
 -- ---- what is read of the option
 
 parsed_for : ℕ → Kind → List ℕ → Parsed
@@ -84,7 +94,12 @@ is_option i one v = refl
 is_option i k v = refl
 
 words_none : (i : ℕ) (s : Parsed) (l : List Parsed) → IsOption i s → positional_words (s ∷ l) ≡ positional_words l
-words_none i s l is = grind arith
+words_none i (positional w) l is = absurd is
+words_none i s l is = refl
+
+occurs_once : (i : ℕ) (s : Parsed) (l : List Parsed) → IsOption i s → occurs i (s ∷ l) ≡ true
+occurs_once i (positional w) l is = absurd is
+occurs_once i s l is = ap (λ b. b || occurs i l) (eq-eqb _ i is)
 
 -- its option accepts the value
 accepted_one : (options : List Declared) (i : ℕ) (k : Kind) (v : List ℕ) → accepts_at options i v ≡ true → refused_value options (parsed_for i k v) ≡ None
@@ -92,6 +107,16 @@ unfolding parsed_for
 accepted_one options i one v is = one_accepted options i v is
 accepted_one options i several v is = single_accepted options i v is
 accepted_one options i k v is = refl
+
+accepted_more : (options : List Declared) (i : ℕ) (k : Kind) (v : List ℕ) (l : List Parsed) → accepts_at options i v ≡ true → are_accepted options l ≡ true → are_accepted options (parsed_for i k v ∷ l) ≡ true
+accepted_more options i k v l is rest = and_from _ _ (ap is_none (accepted_one options i k v is)) rest
+
+occurs_later : (i : ℕ) (s : Parsed) (l : List Parsed) → occurs i l ≡ true → occurs i (s ∷ l) ≡ true
+occurs_later i s l is = or_right (legal.is_option i s) _ is
+
+occurs_after : (i : ℕ) (l m : List Parsed) → occurs i m ≡ true → occurs i (l ++ m) ≡ true
+occurs_after i [] m is = is
+occurs_after i (s ∷ l) m is = occurs_later i s (l ++ m) (occurs_after i l m is)
 
 is_own : (i j : ℕ) (k : Kind) (v : List ℕ) → legal.is_option j (parsed_for i k v) ≡ (i == j)
 unfolding parsed_for
@@ -114,53 +139,18 @@ words_said : (options : List Declared) (words : List (List ℕ)) → map (parsed
 words_said options [] = refl
 words_said options (w ∷ ws) = ap (λ l. Some (positional w) ∷ l) (words_said options ws)
 
--- these words, which end with the separator and others, mean this
-record IsEnd (options : List Declared) (on : Bool) (more words : List (List ℕ)) (parsed : List Parsed) : Type 0 where
-  items : List Item
-  calm : ¬ IsNormalIn false words
-  line : Line exact (table options) on words items
-  are : map (parsed_item options) items ≡ map (λ s. Some s) parsed
-  own_words : positional_words parsed ≡ more
-  accepted : are_accepted options parsed ≡ true
-
--- and after the spelling of an option they mean this first
-record OptionFirst (options : List Declared) (on : Bool) (more : List (List ℕ)) (name : Name) (i : ℕ) (words : List (List ℕ)) (parsed : List Parsed) : Type 0 where
-  rest : List (List ℕ)
-  own : Parsed
-  is : IsOption i own
-  is_own : (j : ℕ) → legal.is_option j own ≡ (i == j)
-  end : IsEnd options on more (spelling name ∷ rest) (own ∷ parsed)
-
-option_first : (options : List Declared) (on : Bool) (more : List (List ℕ)) (name : Name) (i : ℕ) (words : List (List ℕ)) (parsed : List Parsed) → is_sound options ≡ true → IsText name → index_of options name ≡ Some i → IsEnd options on more words parsed
-    → OptionFirst options on more name i words parsed
-option_first options on more name i words parsed sound text found end =
-    let here = option_there options name i found in
-    let k = kind (table options) name in
-    let v = value_for here.0.words in
-    let listed = list_good options i here.0 sound here.1 in
-    record {
-      rest = values_of k v ++ words;
-      own = parsed_for i k v;
-      is = is_option i k v;
-      is_own = λ j. is_own i j k v;
-      end = record {
-        items = item_for k v name ∷ end.items;
-        calm = grind (arith, not_plain, encoded_some);
-        line = group (spelling name ∷ values_of k v ++ words) words (item_for k v name ∷ []) end.items
-            (spelled_group (table options) on name v words text (good options name i sound found) (value_plain here.0.words listed) end.calm) end.line;
-        are = both_are (parsed_item options) (item_for k v name ∷ []) end.items (parsed_for i k v ∷ []) parsed (ap (λ s. s ∷ []) (is_parsed options name i k v found)) end.are;
-        own_words = words_none i (parsed_for i k v) parsed (is_option i k v) ∙ end.own_words;
-        accepted = and_from _ _ (ap is_none (accepted_one options i k v (accepts_here options i here.0 v here.1 (value_fits here.0.words listed)))) end.accepted;
-      };
-    }
-
 -- words for the required options of these, whose first has this index, then the separator and these
 -- words; and what they mean
 record RequiredEnd (options : List Declared) (on : Bool) (i : ℕ) (os : List Declared) (more : List (List ℕ)) : Type 0 where
   words : List (List ℕ)
+  items : List Item
   parsed : List Parsed
-  end : IsEnd options on more words parsed
+  calm : ¬ IsNormalIn false words
+  line : Line exact (table options) on words items
+  are : map (parsed_item options) items ≡ map (λ s. Some s) parsed
+  own_words : positional_words parsed ≡ more
   occur : (j : ℕ) → is_required os j ≡ true → occurs (i + j) parsed ≡ true
+  accepted : are_accepted options parsed ≡ true
   only : (j : ℕ) → is_required options j ≡ false → occurs j parsed ≡ false
 
 none_occurs : (j : ℕ) (words : List (List ℕ)) → occurs j (map positional words) ≡ false
@@ -171,16 +161,14 @@ required_end : (options : List Declared) (on : Bool) (i : ℕ) (os : List Declar
     → RequiredEnd options on i os more
 required_end options on i [] named sound text same more = record {
   words = dashes ∷ more;
+  items = map spec.positional more;
   parsed = map positional more;
-  end = record {
-    items = map spec.positional more;
-    calm = dashes_calm more;
-    line = separator more;
-    are = words_said options more;
-    own_words = words_same more;
-    accepted = words_accepted options more;
-  };
+  calm = dashes_calm more;
+  line = separator more;
+  are = words_said options more;
+  own_words = words_same more;
   occur = λ j is. absurd (false≢true is);
+  accepted = words_accepted options more;
   only = λ j free. none_occurs j more;
 }
 required_end options on i (o ∷ os) named sound text same more =
@@ -189,27 +177,49 @@ required_end options on i (o ∷ os) named sound text same more =
     name : Name
     name = named.0.0
 
+    v : List ℕ
+    v = value_for o.words
+
     -- the first, and those after it
     each : (l : List Parsed) → (o.required ≡ true → occurs i l ≡ true) → ((j : ℕ) → is_required os j ≡ true → occurs (suc i + j) l ≡ true) → (j : ℕ) → is_required (o ∷ os) j ≡ true → occurs (i + j) l ≡ true
     each l first others zero is = subst (λ n. occurs n l ≡ true) (omega arith) (first is)
     each l first others (suc j) is = subst (λ n. occurs n l ≡ true) (omega arith) (others j is)
 
     go : (b : Bool) → o.required ≡ b → RequiredEnd options on (suc i) os more → RequiredEnd options on i (o ∷ os) more
-    go false is rest =
-        record { words = rest.words; parsed = rest.parsed; end = rest.end; occur = each rest.parsed (λ needed. absurd (false≢true (sym is ∙ needed))) rest.occur; only = rest.only }
+    go false is rest = record {
+      words = rest.words;
+      items = rest.items;
+      parsed = rest.parsed;
+      calm = rest.calm;
+      line = rest.line;
+      are = rest.are;
+      own_words = rest.own_words;
+      occur = each rest.parsed (λ needed. absurd (false≢true (sym is ∙ needed))) rest.occur;
+      accepted = rest.accepted;
+      only = rest.only;
+    }
     go true is rest =
         let at : slice_get options i ≡ Some o = ap (slice_get options) (omega arith) ∙ sym (same 0) in
+        let within = slice_get_within options i o at in
         let here = get_or_from_slice_get options i o o at in
-        let index = index_there options name i o sound (slice_get_within options i o at) (ap (has_name name) here ∙ named.0.1) in
-        let first = option_first options on more name i rest.words rest.parsed sound (text name (found (has_name name) options i index)) index rest.end in
+        let index = index_there options name i o sound within (ap (has_name name) here ∙ named.0.1) in
+        let listed = list_good options i o sound at in
+        let utf8 = text name (found (has_name name) options i index) in
+        let own : Parsed = parsed_for i o.kind v in
         record {
-          words = spelling name ∷ first.rest;
-          parsed = first.own ∷ rest.parsed;
-          end = first.end;
-          occur = each (first.own ∷ rest.parsed) (λ needed. (grind arith)) (λ j needed. (or_right (legal.is_option (suc i + j) first.own) _ (rest.occur j needed)));
+          words = spelling name ∷ values_of o.kind v ++ rest.words;
+          items = item_for o.kind v name ∷ rest.items;
+          parsed = own ∷ rest.parsed;
+          calm = not_normal name utf8 (values_of o.kind v ++ rest.words);
+          line = subst (λ (k : Kind). Line exact (table options) on (spelling name ∷ values_of k v ++ rest.words) (item_for k v name ∷ rest.items)) (kind_of_name options o sound (i, within, here) name named.0.1)
+              (spelled_line (table options) on name v rest.words rest.items utf8 (good options name i sound index) (value_plain o.words listed) rest.calm rest.line);
+          are = both_are (parsed_item options) (item_for o.kind v name ∷ []) rest.items (own ∷ []) rest.parsed (ap (λ s. s ∷ []) (is_parsed options name i o.kind v index)) rest.are;
+          own_words = words_none i own rest.parsed (is_option i o.kind v) ∙ rest.own_words;
+          occur = each (own ∷ rest.parsed) (λ needed. occurs_once i own rest.parsed (is_option i o.kind v)) (λ j needed. occurs_later (suc i + j) own rest.parsed (rest.occur j needed));
+          accepted = accepted_more options i o.kind v rest.parsed (accepts_here options i o v at (value_fits o.words listed)) rest.accepted;
           only = λ j free.
               let demanded : is_required options i ≡ true = ap (λ x. unwrap_or (option_map (λ p. p.required) x) false) at ∙ is in
-              ap (λ b. b || occurs j rest.parsed) (first.is_own j ∙ ne_eqb i j (λ same. false≢true (sym free ∙ ap (is_required options) (sym same) ∙ demanded))) ∙ rest.only j free;
+              ap (λ b. b || occurs j rest.parsed) (is_own i j o.kind v ∙ ne_eqb i j (λ same. false≢true (sym free ∙ ap (is_required options) (sym same) ∙ demanded))) ∙ rest.only j free;
         }
 
 -- ---- where an option can come, each declared option can
@@ -220,7 +230,9 @@ longer l x m is = let e = ap length is in let f = length-append l (x ∷ m) in a
 -- what words mean if all words that come after them are positionals
 later_positionals : (d : Declaration) (words more : List (List ℕ)) (l all : List Parsed) (means : MeansFront d words l) → Line exact (table d.options) d.short_equals (words ++ more) (means.items ++ map spec.positional more)
     → (whole : MeansFront d (words ++ more) all) → all ≡ l ++ map positional more
-later_positionals d words more l all means line whole = search (same_parsed, both_are, words_said)
+later_positionals d words more l all means line whole =
+    same_parsed d (words ++ more) all (l ++ map positional more) whole.items (means.items ++ map spec.positional more) whole.spelled line whole.parsed
+    (both_are (parsed_item d.options) means.items (map spec.positional more) l (map positional more) means.parsed (words_said d.options more))
 
 -- more words come after words after which an option can come
 goes_on : (d : Declaration) (words : List (List ℕ)) (l : List Parsed) → (is : IsOpen d words l) → (more : List (List ℕ)) (later : List Item) → ¬ IsNormalIn false more → Line exact (table d.options) d.short_equals more later
@@ -236,43 +248,53 @@ pub can_occur : (d : Declaration) (words : List (List ℕ)) (l : List Parsed) (n
     → are_accepted d.options l ≡ true → AreFilled d.positionals (positional_words l) → index_of d.options name ≡ Some i → IsText name
     → (possible : CanOccur d words (spelling name)) × (possible.before ≡ l) × (possible.index ≡ i) × (AreApart d.options (λ k. occurs k l || (i == k)) → AreApart d.options (λ k. occurs k (possible.before ++ possible.parsed ∷ possible.later)))
 can_occur d words l name i sound utf8 names is accepted filled found text =
+    let t = table d.options in
+    let k = kind t name in
+    let here = option_there d.options name i found in
+    let o = here.0 in
+    let v = value_for o.words in
+    let listed = list_good d.options i o sound here.1 in
     let more_words = filled.more in
+    let named = good d.options name i sound found in
     let end = required_end d.options d.short_equals 0 d.options names sound utf8 (λ j. ap (slice_get d.options) (omega arith)) more_words in
-    let own = option_first d.options d.short_equals more_words name i end.words end.parsed sound text found end.end in
-    let all_words : positional_words (l ++ own.own ∷ end.parsed) ≡ positional_words l ++ more_words = words_append l (own.own ∷ end.parsed) ∙ ap (λ ws. positional_words l ++ ws) own.end.own_words in
-    let counted : positional_count (l ++ own.own ∷ end.parsed) ≡ length (positional_words l ++ more_words) =
-    sym (words_count (l ++ own.own ∷ end.parsed)) ∙ ap length all_words in (
+    let own : Parsed = parsed_for i k v in
+    let rest = values_of k v ++ end.words in
+    let all_words : positional_words (l ++ own ∷ end.parsed) ≡ positional_words l ++ more_words =
+    words_append l (own ∷ end.parsed) ∙ ap (λ ws. positional_words l ++ ws) (words_none i own end.parsed (is_option i k v) ∙ end.own_words) in
+    let counted : positional_count (l ++ own ∷ end.parsed) ≡ length (positional_words l ++ more_words) =
+    sym (words_count (l ++ own ∷ end.parsed)) ∙ ap length all_words in (
       record {
         name = name;
         index = i;
         declared = found;
         spelled = refl;
         before = l;
-        parsed = own.own;
+        parsed = own;
         later = end.parsed;
-        rest = own.rest;
-        is = own.is;
+        rest = rest;
+        is = is_option i k v;
         words_say = is.front;
         line_means = record {
           front = record {
-            items = is.front.items ++ own.end.items;
-            spelled = goes_on d words l is (spelling name ∷ own.rest) own.end.items own.end.calm own.end.line;
-            parsed = both_are (parsed_item d.options) is.front.items own.end.items l (own.own ∷ end.parsed) is.front.parsed own.end.are;
+            items = is.front.items ++ item_for k v name ∷ end.items;
+            spelled = goes_on d words l is (spelling name ∷ rest) (item_for k v name ∷ end.items) (not_normal name text rest)
+                (spelled_line t d.short_equals name v end.words end.items text named (value_plain o.words listed) end.calm end.line);
+            parsed = both_are (parsed_item d.options) is.front.items (item_for k v name ∷ end.items) l (own ∷ end.parsed) is.front.parsed
+                (both_are (parsed_item d.options) (item_for k v name ∷ []) end.items (own ∷ []) end.parsed (ap (λ s. s ∷ []) (is_parsed d.options name i k v found)) end.are);
             within = subst (λ m. IsWithin m (most d.positionals)) (sym counted) filled.within;
           };
           enough = subst (λ m. least d.positionals ≤ m) (sym counted) filled.enough;
-          complete = λ j needed. list_any-append (legal.is_option j) l (own.own ∷ end.parsed)
-              ∙ or_right (occurs j l) _ (or_right (legal.is_option j own.own) _ (subst (λ m. occurs m end.parsed ≡ true) (omega arith) (end.occur j needed)));
-          accepted = accepted_append d.options l (own.own ∷ end.parsed) accepted own.end.accepted;
+          complete = λ j needed. occurs_after j l (own ∷ end.parsed) (occurs_later j own end.parsed (subst (λ m. occurs m end.parsed ≡ true) (omega arith) (end.occur j needed)));
+          accepted = accepted_append d.options l (own ∷ end.parsed) accepted (accepted_more d.options i k v end.parsed (accepts_here d.options i o v here.1 (value_fits o.words listed)) end.accepted);
           taken = subst (AreTaken d.positionals) (sym all_words) filled.taken;
         };
       },
       refl,
       refl,
       λ apart a b.
-          same_clash d.options (λ m. occurs m (l ++ own.own ∷ end.parsed)) (λ m. occurs m l || (i == m)) (λ m some.
-          list_any-append (legal.is_option m) l (own.own ∷ end.parsed)
-          ∙ ap (λ c. occurs m l || (c || occurs m end.parsed)) (own.is_own m)
+          same_clash d.options (λ m. occurs m (l ++ own ∷ end.parsed)) (λ m. occurs m l || (i == m)) (λ m some.
+          list_any-append (legal.is_option m) l (own ∷ end.parsed)
+          ∙ ap (λ c. occurs m l || (c || occurs m end.parsed)) (is_own i m k v)
           ∙ ap (λ c. occurs m l || ((i == m) || c)) (end.only m (not_demanded d.options m sound some)) ∙ ap (λ c. occurs m l || c) (or-false (i == m))) a b
           ∙ apart a b,
     )
@@ -284,11 +306,18 @@ same_later [] s ss ts is = is
 same_later (x ∷ l) s ss ts is = same_later l s ss ts (first_same x x (l ++ s ∷ ss) (l ++ ts) is).1
 
 no_positional : (i : ℕ) (s : Parsed) (ss : List Parsed) (w : List ℕ) (ws : List (List ℕ)) → IsOption i s → s ∷ ss ≡ map positional (w ∷ ws) → ⊥
-no_positional i s ss w ws is same = grind arith
+no_positional i s ss w ws is same =
+    let e : s ≡ positional w = (first_same s (positional w) ss (map positional ws) same).0 in subst (IsOption i) e is
 
 -- the words before the spelling are accepted, with some more words
 pub occurs_taken : (d : Declaration) (words : List (List ℕ)) (s : List ℕ) → (possible : CanOccur d words s) → CanBeTaken d.positionals (positional_words possible.before)
-occurs_taken d words s possible = grind (arith, words_append, can_be_taken, words_count)
+occurs_taken d words s possible =
+    let later : List Parsed = possible.parsed ∷ possible.later in
+    let all = words_append possible.before later in
+    let front = possible.line_means.front in
+    can_be_taken d.positionals (positional_words possible.before) (positional_words later)
+    (subst (λ n. IsWithin n (most d.positionals)) (sym (words_count (possible.before ++ later)) ∙ ap length all) front.within)
+    (subst (AreTaken d.positionals) all possible.line_means.taken)
 
 -- the values before the spelling are accepted
 pub occurs_accepted : (d : Declaration) (words : List (List ℕ)) (s : List ℕ) → (possible : CanOccur d words s) → are_accepted d.options possible.before ≡ true

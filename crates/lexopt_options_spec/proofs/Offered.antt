@@ -1,5 +1,5 @@
 -- Which spellings there are, and which are offered.
-use Rattle.lexopt_options_spec.proofs.Common.{◌≡◌, ◌<◌, ◌==◌, ℕ, zero, suc, Bool, not, true, false, ◌&&◌, ◌⊎◌, List, [], ◌∷◌, filter, length, nat_eq, Some, None, if◌then◌else◌, refl, sym}
+use Rattle.lexopt_options_spec.proofs.Common.{◌≡◌, ◌<◌, ◌==◌, ℕ, zero, suc, Bool, not, true, false, ◌||◌, ◌&&◌, ◌⊎◌, ◌+◌, List, [], ◌∷◌, filter, length, nat_eq, Some, None, if◌then◌else◌, refl, sym}
 use Rattle.lexopt_options_spec.proofs.Common.{ap, subst, ◌∙◌, arith, inl, inr, ⊎_elim, Contains, list_any, starts_with, position_or_len, eq-eqb, false≢true, lt-ltb, or_left, or_right}
 use Rattle.lexopt_options_spec.proofs.Common.{Contains-append_left, Contains-append_right, Contains-append_cases, Name, Declaration, Declared, has_name, index_of, is_name, is_one_of, is_sound}
 use Rattle.lexopt_options_spec.proofs.Common.{names_of, Parsed, are_accepted, positional_words, pointwise, same_text, IsUtf8, list_any-append}
@@ -12,7 +12,8 @@ use Rattle.lexopt_options_spec.proofs.Occurs.{AreNamed, can_occur}
 use Rattle.lexopt_options_spec.proofs.Taken.{AreFilled}
 
 pub cons_cases : {X : Type 0} (x : X) (xs : List X) (s : X) → Contains (x ∷ xs) s → (x ≡ s) ⊎ Contains xs s
-cons_cases x xs s there = grind arith
+cons_cases x xs s (zero, within, is) = inl is
+cons_cases x xs s (suc k, within, is) = inr (k, omega (arith, within), is)
 
 here : {X : Type 0} (x : X) (xs : List X) (s : X) → x ≡ s → Contains (x ∷ xs) s
 here x xs s is = (zero, omega arith, is)
@@ -92,6 +93,9 @@ has_one passes (p ∷ os) s zero o at is own =
 has_one passes (p ∷ os) s (suc i) o at is own =
     Contains-append_right (if passes 0 then spelled_by p else []) (spellings_if (λ i. passes (suc i)) os) s (has_one (λ i. passes (suc i)) os s i o at is own)
 
+at_index : (os : List Declared) (i : ℕ) (o : Declared) → slice_get os i ≡ Some o → spellings_at os i ≡ spelled_by o
+at_index os i o at = ap (λ x. unwrap_or (option_map spelled_by x) []) at
+
 -- ---- the spellings that pass a test
 
 -- one of these spellings has this text and passes
@@ -126,6 +130,9 @@ begins_so typed s is = go s.shown refl is
     go true at is = (is, inl at)
     go false at is = let same = same_text s.text typed (sym is) in (subst (λ t. starts_with nat_eq s.text t ≡ true) same (begins_itself s.text), inr same)
 
+shown_offered : (typed : List ℕ) (s : Spelled) → s.shown ≡ true → starts_with nat_eq s.text typed ≡ true → is_offered typed s ≡ true
+shown_offered typed s shown begins = ap (λ (b : Bool). if b then starts_with nat_eq s.text typed else pointwise ◌==◌ s.text typed) shown ∙ begins
+
 whole_offered : (typed : List ℕ) (s : Spelled) → s.text ≡ typed → is_offered typed s ≡ true
 whole_offered typed s is = subst (λ t. is_offered t s ≡ true) is (elim s.shown as (λ (b : Bool). (if b then starts_with nat_eq s.text s.text else pointwise ◌==◌ s.text s.text) ≡ true) [ true ↦ begins_itself s.text | false ↦ pointwise_refl s.text ])
 
@@ -133,7 +140,11 @@ whole_offered typed s is = subst (λ t. is_offered t s ≡ true) is (elim s.show
 
 pub any_within : {X : Type 0} (p : X → Bool) (os : List X) → list_any p os ≡ true → position_or_len p os < length os
 any_within p [] is = absurd (false≢true is)
-any_within p (o ∷ os) is = grind (arith, any_within p os)
+any_within p (o ∷ os) is = go (p o) is (any_within p os)
+  where
+    go : (b : Bool) → (b || list_any p os) ≡ true → (list_any p os ≡ true → position_or_len p os < length os) → (if not b then 1 + position_or_len p os else 0) < suc (length os)
+    go true is rest = omega arith
+    go false is rest = let r = rest is in omega arith
 
 an_index : (name : Name) (os : List Declared) → list_any (has_name name) os ≡ true → (i : ℕ) × (index_of os name ≡ Some i)
 an_index name os is = (position_or_len (has_name name) os, ap (λ (b : Bool). if b then Some (position_or_len (has_name name) os) else None) (lt-ltb _ _ (any_within (has_name name) os is)))
@@ -146,7 +157,9 @@ offered_occurs d words l s sound text names is accepted filled has =
     subst (CanOccur d words) (sym n.1) (can_occur d words l n.0 i.0 sound text names is accepted filled i.1 (text n.0 n.2)).0
 
 pub occurs_offered : (d : Declaration) (words : List (List ℕ)) (t : List ℕ) → CanOccur d words t → (s : Spelled) × Contains (spellings d.options) s × (s.text ≡ t)
-occurs_offered d words t possible = grind (arith, is_among, found)
+occurs_offered d words t possible =
+    let s = is_among possible.name d.options (found (has_name possible.name) d.options possible.index possible.declared) in
+    (s.0, s.1, s.2 ∙ sym possible.spelled)
 
 -- ---- what is offered
 
@@ -162,7 +175,7 @@ offered_completes d words l typed t passes sound text names is accepted filled f
     let here = get_or_from_slice_get d.options o.0 o.1 o.1 o.2 in
     let index = index_there d.options n.0 o.0 o.1 sound (slice_get_within d.options o.0 o.1 o.2) (ap (has_name n.0) here ∙ n.2) in
     let can = can_occur d words l n.0 o.0 sound text names is accepted filled index (text n.0 (found (has_name n.0) d.options o.0 index)) in
-    let at : spellings_at d.options can.0.index ≡ spelled_by o.1 = ap (spellings_at d.options) can.2 ∙ ap (λ x. unwrap_or (option_map spelled_by x) []) o.2 in
+    let at : spellings_at d.options can.0.index ≡ spelled_by o.1 = ap (spellings_at d.options) can.2 ∙ at_index d.options o.0 o.1 o.2 in
     subst (Completes d words typed) (sym n.1 ∙ s.2) (record {
       text = utf8;
       begins = subst (λ (x : List ℕ). starts_with nat_eq x typed ≡ true) n.1 b.0;
@@ -181,10 +194,10 @@ completes_offered d words typed t passes completes free =
     let o = option_there d.options possible.name possible.index possible.declared in
     ⊎_elim
     (λ shown.
-    let s = kept (λ x. x.shown) (spelled_by o.0) t (subst (λ (list : List Spelled). Contains (texts (filter (λ x. x.shown) list)) t) (ap (λ x. unwrap_or (option_map spelled_by x) []) o.1) shown) in
+    let s = kept (λ x. x.shown) (spelled_by o.0) t (subst (λ (list : List Spelled). Contains (texts (filter (λ x. x.shown) list)) t) (at_index d.options possible.index o.0 o.1) shown) in
     subst (Contains (texts (filter (is_offered typed) (spellings_if passes d.options)))) s.2
     (keeps (is_offered typed) (spellings_if passes d.options) s.0 (has_one passes d.options s.0 possible.index o.0 o.1 free s.1)
-    (ap (λ (b : Bool). if b then starts_with nat_eq s.0.text typed else pointwise ◌==◌ s.0.text typed) s.3 ∙ (subst (λ (x : List ℕ). starts_with nat_eq x typed ≡ true) (sym s.2) completes.begins))))
+    (shown_offered typed s.0 s.3 (subst (λ (x : List ℕ). starts_with nat_eq x typed ≡ true) (sym s.2) completes.begins))))
     (λ whole.
     let s = own_spelling possible.name o.0 o.2 in
     let same = s.2 ∙ sym possible.spelled in

@@ -1,25 +1,26 @@
 -- Words have one rest, and what is read of them before it is what the front says.
-use Rattle.lexopt_options_spec.proofs.Common.{◌≡◌, ◌≢◌, ◌≤◌, ◌+◌, ◌⊎◌, ℕ, suc, Bool, true, false, List, [], ◌∷◌, ◌++◌, length, map, Some, None, refl, sym, ap, subst, ◌∙◌, inl, inr, ⊎_elim}
-use Rattle.lexopt_options_spec.proofs.Common.{append-nil, append_assoc, arith, true≢false, append_cancel_right, length-append, IsLine, TailFits, UnreadLine}
-use Rattle.lexopt_options_spec.proofs.Common.{no_tail, Item, Table, kind, IsReading, ReadsFirst, ReadsItems, first_positional, item_after, items_of_replies, option_reply, start, Spells}
+use Rattle.lexopt_options_spec.proofs.Common.{◌≡◌, ◌≢◌, ◌≤◌, ◌+◌, ◌⊎◌, ℕ, Bool, true, false, List, [], ◌∷◌, ◌++◌, length, map, Option, Some, None, refl, sym, ap, subst, ◌∙◌, inl, inr, ⊎_elim}
+use Rattle.lexopt_options_spec.proofs.Common.{append-nil, append_assoc, arith, true≢false, false≢true, append_cancel_right, length-append, same_Some, IsLine, IsPlain, TailFits, UnreadLine, dash}
+use Rattle.lexopt_options_spec.proofs.Common.{no_tail, Item, Name, Table, kind, IsReading, ReadsFirst, ReadsItems, first_positional, item_after, items_of_replies, option_reply, start, Spells}
 use Rattle.lexopt_options_spec.proofs.Common.{next_same, one_line_left, one_more_item, says_items, spelled_shows, no_other_reading, option_reading, some_reading, reads_last, reads_refused}
-use Rattle.lexopt_options_spec.proofs.Common.{says_positional, step_line, shown_read, Declaration, Declared, table, IsWithin, MeansFront, Parsed, are_accepted, counts, most}
+use Rattle.lexopt_options_spec.proofs.Common.{says_positional, step_line, shown_read, Declaration, Declared, index_of, table, IsWithin, MeansFront, Parsed, are_accepted, counts, is_option, most}
 use Rattle.lexopt_options_spec.proofs.Common.{positional_count, parsed_item, Says, IsOfOption, Mistake, ReadsUpTo, Stops, invalid_value, not_declared, value_of_flag, no_value, not_accepted, Next}
-use Rattle.lexopt_options_spec.proofs.Common.{NextStep, Reply, after_separator, next_word, no_word_left, reads_separator, word_left}
+use Rattle.lexopt_options_spec.proofs.Common.{NextStep, Reply, after_separator, next_word, no_word_left, reads_separator, word_left, IsOf}
 use Rattle.lexopt_spec.specs.Steps as steps
 use Rattle.lexopt_spec.specs.Runs as calls
 use Rattle.lexopt_line_spec.specs.Table as spec
 use Rattle.lexopt_options_spec.specs.Legal as legal
 use Rattle.lexopt_options_spec.specs.Rest.{EndsSeparated, HaveNoRest, IsSplit, IsWithoutRest, RestStart, separated, surplus}
-use Rattle.lexopt_options_spec.proofs.Cuts.{enough, longer}
+use Rattle.lexopt_options_spec.proofs.Cuts.{enough, items_cut}
 use Rattle.lexopt_options_spec.proofs.Fronts.{item_of, not_refused, spelled_read, undeclared}
-use Rattle.lexopt_options_spec.proofs.Growing.{items_cut, EndsSo, ended_before, ends_so, items_calm, open_there, separator_last, step_more}
-use Rattle.lexopt_options_spec.proofs.Lists.{Later, count_append, first_is, first_none, first_same, last_item, not_empty, same_last, split}
+use Rattle.lexopt_options_spec.proofs.Growing.{EndsSo, ended_before, ends_so, items_calm, longer, open_there, separator_last, step_more}
+use Rattle.lexopt_options_spec.proofs.Lists.{Later, first_is, first_none, first_same, last_item, not_empty, same_last, split}
 use Rattle.lexopt_options_spec.proofs.Occurs.{dashes_calm}
 use Rattle.lexopt_options_spec.proofs.OpenLines.{dashes}
-use Rattle.lexopt_options_spec.proofs.PastSeparator.{ended_stays, items_line, items_stay, named_open, open_before, option_open}
+use Rattle.lexopt_options_spec.proofs.PastSeparator.{ended_stays, first_stays, items_line, items_stay, named_open, open_before, option_open}
 use Rattle.lexopt_options_spec.proofs.ReadItems.{ReadsAll}
 use Rattle.lexopt_options_spec.proofs.Rests.{word_is, word_read}
+use Rattle.lexopt_options_spec.proofs.Sound.{known}
 
 -- ---- positionals among items
 
@@ -27,13 +28,36 @@ abbrev pub is_word : Item → ℕ
 is_word (spec.positional word) = 1
 is_word item = 0
 
+-- how many of these items are positionals
+abbrev pub count_items : List Item → ℕ
+count_items [] = 0
+count_items (x ∷ xs) = is_word x + count_items xs
+
 word_counts : (options : List Declared) (x : Item) (s : Parsed) → parsed_item options x ≡ Some s → is_word x ≡ counts s
-word_counts options x s is = grind arith
+word_counts options (spec.positional word) s is = ap counts (same_Some (legal.positional word) s is)
+word_counts options (spec.option name value) s is = ap counts (known (λ i. legal.option i value) (index_of options name) s is).2
+word_counts options (spec.many name values) s is = ap counts (known (λ i. legal.several i values) (index_of options name) s is).2
+
+same_count : (options : List Declared) (items : List Item) (l : List Parsed) → map (parsed_item options) items ≡ map (λ s. Some s) l → count_items items ≡ positional_count l
+same_count options [] [] is = refl
+same_count options (x ∷ items) (s ∷ l) is =
+    let parts = first_same (parsed_item options x) (Some s) (map (parsed_item options) items) (map (λ x. Some x) l) is in
+    let one = word_counts options x s parts.0 in
+    let others = same_count options items l parts.1 in omega (arith, one, others)
+same_count options items l is = cc
 
 -- the last of these items is this positional
 last_word : (options : List Declared) (items : List Item) (l : List Parsed) (word : List ℕ) → map (parsed_item options) items ≡ map (λ s. Some s) (l ++ legal.positional word ∷ [])
     → (front : List Item) × (items ≡ front ++ spec.positional word ∷ []) × (map (parsed_item options) front ≡ map (λ s. Some s) l)
-last_word options items l word is = grind (arith, last_item)
+last_word options items l word is = let own = last_item (parsed_item options) items l (legal.positional word) is in (own.0, own.2 ∙ ap (λ x. own.0 ++ x ∷ []) (item_is own.1 own.3), own.4)
+  where
+    word_of : Parsed → List ℕ
+    word_of (legal.positional w) = w
+    word_of s = []
+
+    item_is : (y : Item) → parsed_item options y ≡ Some (legal.positional word) → y ≡ spec.positional word
+    item_is (spec.positional other) same = ap (λ s. spec.positional (word_of s)) (same_Some (legal.positional other) (legal.positional word) same)
+    item_is y same = absurd (let e = word_counts options y (legal.positional word) same in omega (arith, e))
 
 -- one list of items begins the other, where a positional comes after the first
 begins_other : (xs ys a zs : List Item) (word : List ℕ) → xs ++ spec.positional word ∷ a ≡ ys ++ zs
@@ -45,13 +69,9 @@ begins_other (x ∷ xs) (y ∷ ys) a zs word is =
     ⊎_elim (λ rest. inl (rest.0, ap (λ z. z ∷ xs) parts.0 ∙ ap (λ l. y ∷ l) rest.1, rest.2)) (λ rest. inr (rest.0, ap (λ z. z ∷ ys) (sym parts.0) ∙ ap (λ l. x ∷ l) rest.1))
     (begins_other xs ys a zs word parts.1)
 
--- a positional comes after these items
-word_more : (options : List Declared) (xs k : List Item) (word : List ℕ) (l m : List Parsed) → map (parsed_item options) xs ≡ map (λ s. Some s) l → map (parsed_item options) (xs ++ spec.positional word ∷ k) ≡ map (λ s. Some s) m
-    → (n : ℕ) × (positional_count m ≡ positional_count l + suc n)
-word_more options xs k word l m own all =
-    let more = split (parsed_item options) xs (spec.positional word ∷ k) l m own all in
-    let first = first_is (parsed_item options) (spec.positional word) (legal.positional word) k more.later refl more.are in
-    (positional_count first.0, ap positional_count more.all_are ∙ count_append l more.later ∙ ap (λ x. positional_count l + positional_count x) first.1 ∙ ap (λ n. positional_count l + n) (omega arith))
+counts_append : (xs ys : List Item) → count_items (xs ++ ys) ≡ count_items xs + count_items ys
+counts_append [] ys = omega arith
+counts_append (x ∷ xs) ys = let rest = counts_append xs ys in omega (arith, rest)
 
 -- ---- the reading of a front
 
@@ -98,8 +118,8 @@ surplus_read d words front word more split =
     let all = read.1 in
     let parts = items_split t (start e short) all.there items (spec.positional word ∷ []) all.reads in
     let step = word_first t parts.0 all.there word (subst (ReadsFirst t parts.0 (spec.positional word)) (sym parts.2.2) parts.2.1) in
-    let cut = items_cut t (start e short) all.there (items ++ spec.positional word ∷ []) [] all.there.words tt refl all.reads in
-    let none = no_words parts.0 all.there read.0 cut.0 cut.1 step (ends_so all.there read.0 all.ends) in
+    let cut = items_cut t (start e short) all.there (items ++ spec.positional word ∷ []) [] all.there.words refl all.reads in
+    let none = no_words parts.0 all.there read.0 cut.before cut.words_are step (ends_so all.there read.0 all.ends) in
     let whole : short ++ more ≡ words = append_assoc front (word ∷ []) more ∙ sym split.words_are in
     record {
       items = items;
@@ -113,7 +133,11 @@ surplus_read d words front word more split =
     }
   where
     no_words : (u w v : UnreadLine) (before : List (List ℕ)) → front ++ word ∷ [] ≡ before ++ w.words → NextStep u (steps.positional word) w → EndsSo w v → w.words ≡ []
-    no_words u w v before are step x6 = grind (arith, same_last, false, word_read)
+    no_words u w v before are step (ended_before none ended empty after) = empty
+    no_words u w v before are step (open_there none not empty after) = empty
+    no_words u w v before are step (separator_last none not one after) =
+        let same = (same_last before front (dash ∷ dash ∷ []) word (ap (λ l. before ++ l) (sym one) ∙ sym are)).1 in
+        absurd (dashes_calm [] (subst (IsPlain false) (sym same) ((word_read u w word step).plain not)))
 
 -- the words before the separator are read, and no word is left
 pub record OpenRead (d : Declaration) (before : List (List ℕ)) (l : List Parsed) : Type 0 where
@@ -146,8 +170,10 @@ open_read d before l own with_separator =
         let reading = says_items t (longer (dashes ∷ []) s) u own.items reads later.0 (spec.positional dashes ∷ later.1) (says_positional t u v dashes (inl step) later.0 later.1 later.2) in
         let other = shown_read t d.short_equals (before ++ dashes ∷ []) with_separator.items (spelled_shows t d.short_equals (before ++ dashes ∷ []) with_separator.items with_separator.spelled) in
         let same = no_other_reading t (longer (dashes ∷ []) s) later.0 steps.end (own.items ++ spec.positional dashes ∷ later.1) with_separator.items reading other in
-        let more = word_more d.options own.items later.1 dashes l l own.parsed (ap (map (parsed_item d.options)) same.1 ∙ with_separator.parsed) in
-        omega (arith, more.1)
+        let a = same_count d.options own.items l own.parsed in
+        let b = same_count d.options with_separator.items l with_separator.parsed in
+        let c = ap count_items same.1 ∙ b in
+        let f = counts_append own.items (spec.positional dashes ∷ later.1) in omega (arith, a, c, f)
 
     -- with the separator after them the items are read in the same way
     longer_reads : (there : UnreadLine) → ReadsItems t s own.items there → ReadsItems t (longer (dashes ∷ []) s) own.items (longer (dashes ∷ []) there)
@@ -214,8 +240,9 @@ in_front start_of d words l word more own before u read yet final xs reading =
     never : (s : RestStart) (own : SplitRead s d words l word more) → IsBefore s u → (k : List Item) → read.items ≡ own.items ++ spec.positional word ∷ k → ⊥
     never surplus own is_before k are =
         let few : positional_count before ≤ positional_count l = subst (IsWithin (positional_count before)) own.ends read.within in
-        let more = word_more d.options own.items k word l before own.parsed (sym (ap (map (parsed_item d.options)) are) ∙ read.parsed) in
-        omega (arith, few, more.1)
+        let one = same_count d.options own.items l own.parsed in
+        let two = same_count d.options read.items before read.parsed in
+        let three = ap count_items are ∙ counts_append own.items (spec.positional word ∷ k) in omega (arith, few, one, two, three)
     never separated own is_before k are =
         let t = table d.options in
         let s = start d.short_equals words in
@@ -229,7 +256,17 @@ in_front start_of d words l word more own before u read yet final xs reading =
 
 -- the front is read so
 split_upto : {start_of : RestStart} (d : Declaration) (words : List (List ℕ)) (l : List Parsed) (word : List ℕ) (more : List (List ℕ)) (own : SplitRead start_of d words l word more) → ReadsUpTo d (start d.short_equals words) l own.there
-split_upto {start_of} d words l word more own = grind arith
+split_upto {start_of} d words l word more own = record {
+  items = own.items;
+  read = own.reads;
+  line = items_line (table d.options) (start d.short_equals words) own.there own.items tt own.reads;
+  parsed = own.parsed;
+  within = within start_of own;
+}
+  where
+    within : (s : RestStart) (own : SplitRead s d words l word more) → IsWithin (positional_count l) (most d.positionals)
+    within surplus own = let enough : positional_count l ≤ positional_count l = omega arith in subst (IsWithin (positional_count l)) (sym own.ends) enough
+    within separated own = own.ends.2
 
 split_before : (start_of : RestStart) (d : Declaration) (words : List (List ℕ)) (l : List Parsed) (word : List ℕ) (more : List (List ℕ)) (own : SplitRead start_of d words l word more) → IsBefore start_of own.there
 split_before surplus d words l word more own = λ is. cc
@@ -308,9 +345,10 @@ surplus_alone d words l u v other read next not full front word more part =
         true≢false (sym own.ends.1 ∙ ap (λ (x : UnreadLine). x.ended) after ∙ not)
     by own step (x ∷ k) m xs are items_are =
         let few : positional_count part.l ≤ positional_count l = subst (IsWithin (positional_count part.l)) full own.ends.2 in
-        let all = are ∙ ap (λ y. read.items ++ y ∷ k) (first_same x (spec.positional other) (k ++ spec.positional word ∷ m) xs items_are).0 in
-        let more = word_more d.options read.items k other l part.l read.parsed (sym (ap (map (parsed_item d.options)) all) ∙ own.parsed) in
-        omega (arith, few, more.1)
+        let one = same_count d.options own.items part.l own.parsed in
+        let two = same_count d.options read.items l read.parsed in
+        let three = ap count_items are ∙ counts_append read.items (x ∷ k) in
+        let four = ap is_word (first_same x (spec.positional other) (k ++ spec.positional word ∷ m) xs items_are).0 in omega (arith, few, one, two, three, four)
 
 -- words that are a front themselves have no positional that is one too many
 pub front_alone : (d : Declaration) (words : List (List ℕ)) (l : List Parsed) → MeansFront d words l → HaveNoRest surplus d words
@@ -334,18 +372,41 @@ first_option : (k m xs : List Item) (word : List ℕ) (x : Item) → is_word x �
 first_option [] m xs word x other is = absurd (let e = ap is_word (first_same (spec.positional word) x m xs is).0 in omega (arith, e, other))
 first_option (y ∷ k) m xs word x other is = let parts = first_same y x (k ++ spec.positional word ∷ m) xs is in (k, ap (λ z. z ∷ k) parts.0, parts.1)
 
+of_name : (name : Name) (item : Item) → IsOf name item → is_word item ≡ 0
+of_name name (spec.positional word) is = absurd is
+of_name name item is = refl
+
+items_one : (name : Name) (o : Option (List ℕ)) → items_of_replies (option_reply name ∷ steps.missing o ∷ []) ≡ spec.option name None ∷ []
+items_one (spec.short c) o = refl
+items_one (spec.long name) o = refl
+
 -- one thing that is read is one item
 one_item : (options : List Declared) (items : List Item) (s : Parsed) → map (parsed_item options) items ≡ map (λ x. Some x) (s ∷ []) → (x : Item) × (items ≡ x ∷ []) × (parsed_item options x ≡ Some s)
+one_item options [] s are = absurd (let e : [] ≡ Some s ∷ [] = are in cc)
 one_item options (x ∷ []) s are = (x, refl, (first_same (parsed_item options x) (Some s) [] [] are).0)
-one_item options it s are = grind arith
+one_item options (x ∷ y ∷ items) s are = absurd (let e : parsed_item options y ∷ map (parsed_item options) items ≡ [] = (first_same (parsed_item options x) (Some s) (parsed_item options y ∷ map (parsed_item options) items) [] are).1 in cc)
+
+not_counted : (s : Parsed) (index : ℕ) → is_option index s ≡ true → counts s ≡ 0
+not_counted (legal.positional word) index is = absurd (false≢true is)
+not_counted s index is = refl
 
 -- an option is read before the separator
 first_item_open : (t : Table) (u w : UnreadLine) (item : Item) → is_word item ≡ 0 → IsLine u → ReadsFirst t u item w → u.ended ≡ false
-first_item_open t u w item none line reads = grind arith
+first_item_open t u w item none line reads = before u.ended refl
+  where
+    before : (b : Bool) → u.ended ≡ b → u.ended ≡ false
+    before false is = is
+    before true is = absurd (true≢false (sym (first_stays t u w item line reads is) ∙ option_open t u w item line reads (λ word same. let e = ap is_word same in omega (arith, e, none))))
 
 -- where an option was read last, the separator was not read
 pub last_open : (d : Declaration) (s u : UnreadLine) (before : List Parsed) (last : Parsed) → IsLine s → ReadsUpTo d s (before ++ last ∷ []) u → counts last ≡ 0 → u.ended ≡ false
-last_open d s u before last line read none = grind (arith, last_item, items_split, items_line, option_open)
+last_open d s u before last line read none =
+    let t = table d.options in
+    let own = last_item (parsed_item d.options) read.items before last read.parsed in
+    let parts = items_split t s u own.0 (own.1 ∷ []) (subst (λ xs. ReadsItems t s xs u) own.2 read.read) in
+    let there = items_line t s parts.0 own.0 line parts.1 in
+    ap (λ (y : UnreadLine). y.ended) parts.2.2
+    ∙ option_open t parts.0 parts.2.0 own.1 there parts.2.1 (λ word same. let f : is_word (spec.positional word) ≡ 0 = sym (ap is_word same) ∙ word_counts d.options own.1 last own.3 ∙ none in omega (arith, f))
 
 -- if an option has this mistake, the words have no rest after options that accept their values
 pub mistaken : {start_of : RestStart} (d : Declaration) (words front : List (List ℕ)) (word : List ℕ) (more : List (List ℕ)) (part : IsSplit start_of d words front word more) (before : List Parsed) (u : UnreadLine) (mistake : Mistake) → ReadsUpTo d (start d.short_equals words) before u
@@ -354,7 +415,7 @@ mistaken {start_of} d words front word more part before u mistake read of (not_d
     let r = option_reading (table d.options) u v name (step_line calls.next u (option_reply name) v read.line step) step in
     let item = item_after name r.1 in
     let on = goes_on d words front word more part before u read (λ _. named_open u v name read.line step) r.0 (item ∷ items_of_replies r.1) r.2 in
-    let k = first_option on.k on.m (items_of_replies r.1) word item (grind arith) on.items_are in
+    let k = first_option on.k on.m (items_of_replies r.1) word item (of_name name item (item_of name r.1)) on.items_are in
     first_none (parsed_item d.options) item k.0 on.later.later (undeclared d.options name item (item_of name r.1) none) (sym (ap (map (parsed_item d.options)) k.1) ∙ on.later.are)
 mistaken {start_of} d words front word more part before u mistake read of (value_of_flag option value v step) accepted =
     let on = goes_on d words front word more part before u read
@@ -363,14 +424,14 @@ mistaken {start_of} d words front word more part before u mistake read of (value
 mistaken {start_of} d words front word more part before u mistake read of (no_value name index option call v w step found due takes) accepted =
     let t = table d.options in
     let on = goes_on d words front word more part before u read (λ _. named_open u v name read.line step) (steps.missing (Some option)) _ (reads_refused t u v w name (kind t name) call (steps.missing (Some option)) refl due tt step takes) in
-    let k = first_option on.k on.m [] word (spec.option name None) refl (on.items_are ∙ (grind arith)) in
+    let k = first_option on.k on.m [] word (spec.option name None) refl (on.items_are ∙ items_one name (Some option)) in
     not_empty k.0 on.m (spec.positional word) k.2
 mistaken {start_of} d words front word more part before u mistake read of (not_accepted s index value v given is refused) accepted =
     let t = table d.options in
     let one = one_item d.options given.items s given.parsed in
     let r = some_reading t v given.line in
     let reads = subst (λ xs. ReadsItems t u xs v) one.1 given.read in
-    let none = word_counts d.options one.0 s one.2 ∙ grind arith in
+    let none = word_counts d.options one.0 s one.2 ∙ not_counted s index is in
     let on = goes_on d words front word more part before u read (λ _. first_item_open t u reads.0 one.0 none read.line reads.1) r.0 (given.items ++ r.1) (says_items t u v given.items given.read r.0 r.1 r.2) in
     let k = first_option on.k on.m r.1 word one.0 none (on.items_are ∙ ap (λ l. l ++ r.1) one.1) in
     let first = first_is (parsed_item d.options) one.0 s k.0 on.later.later one.2 (sym (ap (map (parsed_item d.options)) k.1) ∙ on.later.are) in

@@ -1,6 +1,5 @@
 -- Lines after which an option can come.
-use Rattle.std.proofs.Common.{arith}
-use Rattle.lexopt_options_spec.proofs.Common.{◌≡◌, ◌≢◌, ℕ, Bool, false, List, [], ◌∷◌, ◌++◌, map, sym, ap, subst, append_assoc, map-append, dash, IsNormalIn}
+use Rattle.lexopt_options_spec.proofs.Common.{◌≡◌, ◌≢◌, ℕ, Bool, false, List, [], ◌∷◌, ◌++◌, map, sym, ap, subst, ◌∙◌, append_assoc, map-append, dash, IsNormalIn}
 use Rattle.lexopt_line_spec.specs.Table.{Name, short, long, Item, positional, Kind, flag, one, optional, several, kind, Table}
 use Rattle.lexopt_line_spec.specs.Spelling as spelling
 use Rattle.lexopt_line_spec.specs.Spelling.{Letters, After, Completes, no_value, no_optional, attached_optional, joined_optional, joined_several, attached_several, several_words, attached_value, joined_value, next_word, Cluster, flag_first, last_option, Group, cluster, Line, no_words, plain_word, group, separator}
@@ -53,7 +52,8 @@ pub data Parts (letters : Letters) (t : Table) (short_equals : Bool) (words : Li
   past_separator : words ≢ [] → ((more : List (List ℕ)) → Line letters t short_equals (words ++ more) (items ++ map positional more)) → Parts letters t short_equals words items
 
 group_some : (letters : Letters) (t : Table) (short_equals : Bool) (words left : List (List ℕ)) (items : List Item) → Group letters t short_equals words items left → words ≢ []
-group_some letters t short_equals words left items it none = grind arith
+group_some letters t short_equals words left items (cluster bytes others are other spelled) none = let e : (dash ∷ bytes) ∷ others ≡ [] = sym are ∙ none in cc
+group_some letters t short_equals words left items (spelling.long_option text bytes name after item others are is no_name named completes items_are) none = let e : (dash ∷ dash ∷ text) ∷ others ≡ [] = sym are ∙ none in cc
 
 pub parts : (letters : Letters) (t : Table) (short_equals : Bool) (words : List (List ℕ)) (items : List Item) → Line letters t short_equals words items → Parts letters t short_equals words items
 parts letters t short_equals words items no_words = open_to_the_end (λ more later calm line. line)

@@ -1,8 +1,8 @@
 -- Words that are read up to a place, and what the next word is there.
 use Rattle.lexopt_options_spec.proofs.Common.{◌≡◌, ◌≢◌, ℕ, Bool, true, false, List, [], ◌∷◌, ◌++◌, Option, Some, None, refl, sym, ap, subst, ◌∙◌, arith, inl, option_map, false≢true, append-nil}
 use Rattle.lexopt_options_spec.proofs.Common.{no_tail, UnreadLine, IsLine, IsPlain, IsNormalIn, pending, spelling, ValuesStep, Step, Item, Name, kind, ReadsFirst, first_positional, first_one}
-use Rattle.lexopt_options_spec.proofs.Common.{option_reply, start, IsDue, one_more_item, step_line, Declaration, index_of, is_sound, table, IsWithin, Parsed, most, parsed_item}
-use Rattle.lexopt_options_spec.proofs.Common.{MeansFront, positional_count, Leaves, LeadsNowhere, Says, leaves_anything, leaves_due, leaves_first, leaves_further, leaves_ended, state_at_end, Mistake, ReadsUpTo}
+use Rattle.lexopt_options_spec.proofs.Common.{first_several, option_reply, start, IsDue, one_more_item, step_line, Declaration, index_of, is_sound, table, IsWithin, Parsed, most, parsed_item}
+use Rattle.lexopt_options_spec.proofs.Common.{positional_count, Leaves, LeadsNowhere, Says, leaves_anything, leaves_due, leaves_first, leaves_further, leaves_ended, state_at_end, Mistake, ReadsUpTo}
 use Rattle.lexopt_options_spec.proofs.Common.{Stops, missing_value, no_value, not_declared, one_too_many, unexpected_argument, unexpected_value, unknown_option, value_of_flag, Reply, Next, NextStep}
 use Rattle.lexopt_options_spec.proofs.Common.{no_word_left, reads_separator, next_word, nothing_to_take, none_tail}
 use Rattle.lexopt_spec.specs.Steps as steps
@@ -11,9 +11,9 @@ use Rattle.lexopt_line_spec.specs.Table as spec
 use Rattle.lexopt_line_spec.proofs.LastOption.{missing_names}
 use Rattle.lexopt_options_spec.specs.Legal as legal
 use Rattle.lexopt_options_spec.specs.States as states
-use Rattle.lexopt_options_spec.proofs.Cuts.{AnyLeft, at_end, both, ends_here, enough, longer, so, with_words}
-use Rattle.lexopt_options_spec.proofs.Fronts.{ComesTo, StopsEarly, no_front}
-use Rattle.lexopt_options_spec.proofs.Growing.{CanBeLeft, calm_left, read_left, reads_something, several_read, Calm, Grows, EndsSo, ended_before, open_there, separator_last, ends_so, adds_word, calm_before, first_taken, lack_more, no_option, not_normal_more, only_end, option_before_separator, option_more, step_more, takes_next}
+use Rattle.lexopt_options_spec.proofs.Cuts.{ends_here, enough}
+use Rattle.lexopt_options_spec.proofs.Fronts.{ComesTo, StopsEarly, no_front, nothing_read}
+use Rattle.lexopt_options_spec.proofs.Growing.{longer, Calm, Grows, EndsSo, ended_before, open_there, separator_last, ends_so, adds_word, calm_before, first_taken, lack_more, no_option, not_normal_more, only_end, option_before_separator, option_more, step_more, takes_next}
 use Rattle.lexopt_options_spec.proofs.Rests.{ReadsAs, one_more, says}
 use Rattle.lexopt_options_spec.proofs.Lists.{joined}
 use Rattle.lexopt_options_spec.proofs.Occurs.{dashes_calm}
@@ -28,28 +28,23 @@ pub record Further (d : Declaration) (s : UnreadLine) (l : List Parsed) (i : ℕ
   pub before_separator : u.ended ≡ false
   pub more : u.words ≡ [] → (p : List ℕ) → IsPlain false p → ReadsAs d (longer (p ∷ []) s) (before ++ legal.several i (values ++ p ∷ []) ∷ []) u
 
--- The line s is read up to the line u, and this is read, whatever words are left; but if the option
--- of several values at the index `going` was read last, plain words are more of them.
+-- The line s is read up to the line u, and this is read, whatever words come at its end; but if the
+-- option of several values at the index `going` was read last, plain words are more of them.
 pub record Reached (d : Declaration) (s : UnreadLine) (l : List Parsed) (going : Option ℕ) (u : UnreadLine) : Type 0 where
   pub upto : ReadsUpTo d s l u
-  pub any : AnyLeft (λ x y. ReadsAs d x l y) (λ ws. going ≢ None → CanBeLeft u ws) s u
+  pub calm : (tail : List (List ℕ)) → Calm u tail → ReadsAs d (longer tail s) l (longer tail u)
+  pub closed : going ≡ None → (tail : List (List ℕ)) → ReadsAs d (longer tail s) l (longer tail u)
   pub opened : (i : ℕ) → going ≡ Some i → Further d s l i u
 
 -- ---- one more item
 
 pub nothing_reached : (d : Declaration) (s : UnreadLine) → IsLine s → Reached d s [] None s
-nothing_reached d s line = grind arith
-
--- with more words at the end it is read in the same way
-more_reached : {d : Declaration} {s u : UnreadLine} {l : List Parsed} {going : Option ℕ} → Reached d s l going u → (tail : List (List ℕ)) → (going ≢ None → Calm u tail) → ReadsAs d (longer tail s) l (longer tail u)
-more_reached {d} {s} {u} at tail calm = at_end at.any tail (λ some. calm_left u tail (calm some))
-
--- and then one more item
-one_any : {d : Declaration} {s u w : UnreadLine} {l : List Parsed} {going : Option ℕ} {x : Item} {own : Parsed} {opens : Bool} → Reached d s l going u → Grows (table d.options) u x opens w → parsed_item d.options x ≡ Some own
-    → AnyLeft (λ y z. ReadsAs d y (l ++ own ∷ []) z) (λ ws. opens ≡ true → CanBeLeft w ws) s w
-one_any {d} {s} {u} {w} {l} {going} {x} at grows is =
-    so (both at.any grows.any (λ ws passes some. read_left grows.any (λ opens whole none normal. normal) (λ whole reads. reads_something (table d.options) (with_words [] u) (with_words [] w) x refl whole reads) ws))
-    (λ ws passes. passes) (λ y z reads. one_more reads.1 reads.2 is)
+nothing_reached d s line = record {
+  upto = nothing_read d s line;
+  calm = λ tail calm. record { items = []; reads = refl; parsed = refl };
+  closed = λ none tail. record { items = []; reads = refl; parsed = refl };
+  opened = λ i is. cc;
+}
 
 up_to : {d : Declaration} {s u w : UnreadLine} {l : List Parsed} {x : Item} {own : Parsed} → ReadsUpTo d s l u → ReadsFirst (table d.options) u x w → parsed_item d.options x ≡ Some own → IsLine w
     → IsWithin (positional_count (l ++ own ∷ [])) (most d.positionals) → ReadsUpTo d s (l ++ own ∷ []) w
@@ -65,20 +60,28 @@ pub closed_reached : (d : Declaration) (s u w : UnreadLine) (l : List Parsed) (o
     → IsLine w → IsWithin (positional_count (l ++ own ∷ [])) (most d.positionals) → Reached d s (l ++ own ∷ []) None w
 closed_reached d s u w l o x own at grows is line within = record {
   upto = up_to at.upto grows.reads is line within;
-  any = so (one_any at grows is) (λ ws passes opens. cc) (λ y z reads. reads);
+  calm = λ tail calm. one_more (before tail) (grows.calm tail calm) is;
+  closed = λ none tail. one_more (before tail) (grows.closed refl tail) is;
   opened = λ i same. cc;
 }
+  where
+    before : (tail : List (List ℕ)) → ReadsAs d (longer tail s) l (longer tail u)
+    before tail = at.calm tail (calm_before (table d.options) u w x grows.reads tail)
 
 pub open_reached : (d : Declaration) (s u w : UnreadLine) (l : List Parsed) (o : Option ℕ) (name : Name) (index : ℕ) (values : List (List ℕ)) → Reached d s l o u → Grows (table d.options) u (spec.many name values) true w
     → index_of d.options name ≡ Some index → IsLine w → IsWithin (positional_count (l ++ legal.several index values ∷ [])) (most d.positionals) → Reached d s (l ++ legal.several index values ∷ []) (Some index) w
 open_reached d s u w l o name index values at grows found line within = record {
   upto = up_to at.upto grows.reads (item_is values) line within;
-  any = so (one_any at grows (item_is values)) (λ ws passes opens. passes (λ none. cc)) (λ y z reads. reads);
-  opened = λ i same. let is : index ≡ i = cc in subst (λ j. Further d s (l ++ legal.several index values ∷ []) j w) is further;
+  calm = λ tail calm. one_more (before tail) (grows.calm tail calm) (item_is values);
+  closed = λ same tail. cc;
+  opened = λ i same. subst (λ j. Further d s (l ++ legal.several index values ∷ []) j w) (index_is i same) further;
 }
   where
     before : (tail : List (List ℕ)) → ReadsAs d (longer tail s) l (longer tail u)
-    before tail = more_reached at tail (λ some. calm_before (table d.options) u w (spec.many name values) grows.reads tail)
+    before tail = at.calm tail (calm_before (table d.options) u w (spec.many name values) grows.reads tail)
+
+    index_is : (i : ℕ) → Some index ≡ Some i → index ≡ i
+    index_is i same = cc
 
     item_is : (values : List (List ℕ)) → parsed_item d.options (spec.many name values) ≡ Some (legal.several index values)
     item_is values = ap (option_map (λ i. legal.several i values)) found
@@ -91,10 +94,25 @@ open_reached d s u w l o name index values at grows found line within = record {
           values = values;
           is = refl;
           before_separator = there.before_separator;
-          more = λ none p plain. one_more (before (p ∷ [])) (there.more none p plain) (item_is (values ++ p ∷ []));
+          more = λ none p plain.
+              one_more (before (p ∷ []))
+              (subst (λ x. ReadsFirst (table d.options) (longer (p ∷ []) u) x w) (same_item there.name there.values p there.is) (there.more none p plain))
+              (item_is (values ++ p ∷ []));
         }
+      where
+        same_item : (other : Name) (vs : List (List ℕ)) (p : List ℕ) → spec.many name values ≡ spec.many other vs → spec.many other (vs ++ p ∷ []) ≡ spec.many name (values ++ p ∷ [])
+        same_item other vs p is =
+            let a : name ≡ other = cc in
+            let b : values ≡ vs = cc in
+            ap (λ n. spec.many n (vs ++ p ∷ [])) (sym a) ∙ ap (λ ws. spec.many name (ws ++ p ∷ [])) (sym b)
 
 -- ---- the end of the words
+
+up_to_as : {d : Declaration} {s u : UnreadLine} {l : List Parsed} → ReadsUpTo d s l u → ReadsAs d s l u
+up_to_as read = record { items = read.items; reads = read.read; parsed = read.parsed }
+
+appended : (words tail : List (List ℕ)) → words ≡ [] → words ++ tail ≡ tail
+appended words tail is = ap (λ l. l ++ tail) is
 
 -- the words are read up to their end
 pub end_leaves : (d : Declaration) (words : List (List ℕ)) (l : List Parsed) (o : Option ℕ) (u v : UnreadLine) → is_sound d.options ≡ true → Reached d (start d.short_equals words) l o u → Next u steps.end v → Leaves d words l (state_at_end o v.ended)
@@ -104,7 +122,7 @@ end_leaves d words l o u v sound at next = by (ends_so u v step)
     step = enough NextStep u steps.end v next (λ no. cc)
 
     own : Says d words l
-    own = says sound (record { items = at.upto.items; reads = at.upto.read; parsed = at.upto.parsed }) step
+    own = says sound (up_to_as at.upto) step
 
     -- one more word is a positional
     adds : (p : List ℕ) → v.tail ≡ no_tail → v.words ≡ [] → EndsSo u v → (v.ended ≡ false → IsPlain false p) → ReadsAs d (longer (p ∷ []) (start d.short_equals words)) l (longer (p ∷ []) u) → Says d (words ++ p ∷ []) (l ++ legal.positional p ∷ [])
@@ -120,18 +138,18 @@ end_leaves d words l o u v sound at next = by (ends_so u v step)
     -- before it
     before : v ≡ u → u.ended ≡ false → u.tail ≡ no_tail → u.words ≡ [] → EndsSo u v → (going : Option ℕ) → o ≡ going → Leaves d words l (state_at_end going false)
     before same not none empty so None is = leaves_anything
-        (record { says = own; with_separator = separated (more_reached at (dashes ∷ []) (λ some. absurd (some is))) })
-        (λ p plain. adds p (ap (λ (x : UnreadLine). x.tail) same ∙ none) (ap (λ (x : UnreadLine). x.words) same ∙ empty) so (λ same. plain) (more_reached at (p ∷ []) (λ some. absurd (some is))))
+        (record { says = own; with_separator = separated (at.closed is (dashes ∷ [])) })
+        (λ p plain. adds p (ap (λ (x : UnreadLine). x.tail) same ∙ none) (ap (λ (x : UnreadLine). x.words) same ∙ empty) so (λ same. plain) (at.closed is (p ∷ [])))
       where
         separated : ReadsAs d (start d.short_equals (words ++ dashes ∷ [])) l (longer (dashes ∷ []) u) → Says d (words ++ dashes ∷ []) l
-        separated reads = says sound reads (next_word none not (reads_separator [] (ap (λ l. l ++ (dashes ∷ [])) empty) (no_word_left refl refl refl)))
+        separated reads = says sound reads (next_word none not (reads_separator [] (appended u.words (dashes ∷ []) empty) (no_word_left refl refl refl)))
     before same not none empty so (Some i) is =
         let there = at.opened i is in
         leaves_further i there.before there.values there.is
         (record {
           says = own;
-          with_separator = says sound (more_reached at (dashes ∷ []) (λ some no_words no_left. dashes_calm []))
-              (next_word none not (reads_separator [] (ap (λ l. l ++ (dashes ∷ [])) empty) (no_word_left refl refl refl)));
+          with_separator = says sound (at.calm (dashes ∷ []) (λ no_words no_left. dashes_calm []))
+              (next_word none not (reads_separator [] (appended u.words (dashes ∷ []) empty) (no_word_left refl refl refl)));
         })
         (λ p plain. says sound (there.more empty p plain) (ends_here u u.ended refl none empty))
 
@@ -141,11 +159,11 @@ end_leaves d words l o u v sound at next = by (ends_so u v step)
 
     by : EndsSo u v → Leaves d words l (state_at_end o v.ended)
     by (ended_before none ended empty after) =
-        past (after ∙ ap (λ (l : List (List ℕ)). record u { words = l }) empty ∙ ap (λ (b : Bool). record u { words = []; ended = b }) ended) none (ended_before none ended empty after) (λ p. more_reached at (p ∷ []) (λ some. absurd (some (never_open ended o refl))))
+        past (after ∙ ap (λ (l : List (List ℕ)). record u { words = l }) empty ∙ ap (λ (b : Bool). record u { words = []; ended = b }) ended) none (ended_before none ended empty after) (λ p. at.closed (never_open ended o refl) (p ∷ []))
     by (open_there none not empty after) =
         subst (λ b. Leaves d words l (state_at_end o b)) (sym (ap (λ (x : UnreadLine). x.ended) after ∙ not)) (before after not none empty (open_there none not empty after) o refl)
     by (separator_last none not one after) =
-        past after none (separator_last none not one after) (λ p. more_reached at (p ∷ []) (λ some no_words. absurd (let e : [] ≡ dashes ∷ [] = sym no_words ∙ one in cc)))
+        past after none (separator_last none not one after) (λ p. at.calm (p ∷ []) (λ no_words. absurd (let e : [] ≡ dashes ∷ [] = sym no_words ∙ one in cc)))
 
 -- ---- a value that an option lacks
 
@@ -156,17 +174,8 @@ here {d} {words} {u} at stops = record { there = u; read = at.upto; stops = stop
 later : {d : Declaration} {words : List (List ℕ)} {u : UnreadLine} {l : List Parsed} {o : Option ℕ} {why : Mistake} (tail : List (List ℕ)) → Reached d (start d.short_equals words) l o u → Calm u tail → Stops d l (longer tail u) why
     → ComesTo d (words ++ tail) l why
 later {d} {words} {u} tail at calm stops =
-    let reads = more_reached at tail (λ some. calm) in
+    let reads = at.calm tail calm in
     record { there = longer tail u; read = record { items = reads.items; read = reads.reads; line = at.upto.line; parsed = reads.parsed; within = at.upto.within }; stops = stops }
-
--- the option lacks its value here, or with more words
-never_here : {d : Declaration} {words : List (List ℕ)} {u : UnreadLine} {l : List Parsed} {o : Option ℕ} {index : ℕ} → Reached d (start d.short_equals words) l o u → (named : List ℕ) × Stops d l u (missing_value index named)
-    → (m : List Parsed) → ¬ MeansFront d words m
-never_here {d} {words} {u} {l} {o} {index} at stops m means = no_front d words l (missing_value index stops.0) (here at stops.1) tt m means
-
-never_later : {d : Declaration} {words : List (List ℕ)} {u : UnreadLine} {l : List Parsed} {o : Option ℕ} {index : ℕ} (tail : List (List ℕ)) → Reached d (start d.short_equals words) l o u → Calm u tail
-    → (named : List ℕ) × Stops d l (longer tail u) (missing_value index named) → (m : List Parsed) → ¬ MeansFront d (words ++ tail) m
-never_later {d} {words} {u} {l} {o} {index} tail at calm stops m means = no_front d (words ++ tail) l (missing_value index stops.0) (later tail at calm stops.1) tt m means
 
 -- nothing that begins with these words is a line, since the reading stops here whatever comes after
 pub leads_nowhere : (d : Declaration) (words : List (List ℕ)) (l : List Parsed) (o : Option ℕ) (u : UnreadLine) (why : Mistake) → StopsEarly why → Reached d (start d.short_equals words) l o u
@@ -211,35 +220,37 @@ values_stop d l u v name index next found k none normal =
     let same : longer [] v ≡ v = ap (λ ws. record v { words = ws }) (append-nil v.words) in
     lacks d l u v v name index (calls.values 1) (several_due d name 1 k) next found (inl (subst (λ x. ValuesStep 1 x (steps.missing (spelling v.last)) x) same lacking))
 
--- it lacks them with more words that are not plain
-lacks_more : (d : Declaration) (l : List Parsed) (u v : UnreadLine) (name : Name) (index : ℕ) (tail : List (List ℕ)) → Next u (option_reply name) v → index_of d.options name ≡ Some index → kind (table d.options) name ≡ spec.several → pending v ≡ None
-    → ¬ IsNormalIn v.ended (v.words ++ tail) → (named : List ℕ) × Stops d l (longer tail u) (missing_value index named)
-lacks_more d l u v name index tail next found k none normal =
-    lacks d l (longer tail u) (longer tail v) (longer tail v) name index (calls.values 1) (several_due d name 1 k) (option_more u v name tail next) found (inl (lack_more v 1 tail none normal))
+no_tail_left : (v : UnreadLine) → IsLine v → pending v ≡ None → v.tail ≡ no_tail
+no_tail_left v line none = none_tail v.short_equals v.tail v.last v.ended line none
 
 pub value_due : (d : Declaration) (words : List (List ℕ)) (l : List Parsed) (o : Option ℕ) (u v : UnreadLine) (name : Name) (index : ℕ) → is_sound d.options ≡ true → Reached d (start d.short_equals words) l o u
     → Next u (option_reply name) v → index_of d.options name ≡ Some index → kind (table d.options) name ≡ spec.one → pending v ≡ None → v.words ≡ [] → Leaves d words l (states.due index)
 value_due d words l o u v name index sound at next found k none empty = leaves_due index
-    (never_here at (value_stops d l u v name index next found k none empty))
+    (λ m means.
+    let stops = value_stops d l u v name index next found k none empty in
+    no_front d words l (missing_value index stops.0) (here at stops.1) tt m means)
     (λ p.
     says sound
-    (one_more (more_reached at (p ∷ []) (λ some. calm_at_option u v name next (p ∷ [])))
+    (one_more (at.calm (p ∷ []) (calm_at_option u v name next (p ∷ [])))
     (first_one name p (longer (p ∷ []) v) v k (option_more u v name (p ∷ []) next) (takes_next v p none empty)) (ap (option_map (λ i. legal.option i (Some p))) found))
-    (ends_here v v.ended refl (none_tail v.short_equals v.tail v.last v.ended (step_line calls.next u (option_reply name) v at.upto.line next) none) empty))
+    (ends_here v v.ended refl (no_tail_left v (step_line calls.next u (option_reply name) v at.upto.line next) none) empty))
 
 pub first_due : (d : Declaration) (words : List (List ℕ)) (l : List Parsed) (o : Option ℕ) (u v : UnreadLine) (name : Name) (index : ℕ) → is_sound d.options ≡ true → Reached d (start d.short_equals words) l o u
     → Next u (option_reply name) v → index_of d.options name ≡ Some index → kind (table d.options) name ≡ spec.several → pending v ≡ None → v.words ≡ [] → Leaves d words l (states.first index)
 first_due d words l o u v name index sound at next found k none empty = leaves_first index
-    (never_here at (values_stop d l u v name index next found k none (subst (λ ws. ¬ IsNormalIn v.ended ws) (sym empty) (λ normal. normal))))
+    (λ m means.
+    let stops = values_stop d l u v name index next found k none (subst (λ ws. ¬ IsNormalIn v.ended ws) (sym empty) (λ normal. normal)) in
+    no_front d words l (missing_value index stops.0) (here at stops.1) tt m means)
     (λ p plain.
     says sound
-    (one_more (more_reached at (p ∷ []) (λ some. calm_at_option u v name next (p ∷ [])))
-    (several_read (table d.options) (longer (p ∷ []) u) (longer (p ∷ []) v) v name (p ∷ []) k (option_more u v name (p ∷ []) next) (first_taken v p none empty before plain))
+    (one_more (at.calm (p ∷ []) (calm_at_option u v name next (p ∷ [])))
+    (first_several name 2 (p ∷ []) (longer (p ∷ []) v) v k (option_more u v name (p ∷ []) next) (omega arith) (first_taken v p none empty before plain))
     (ap (option_map (λ i. legal.several i (p ∷ []))) found))
-    (ends_here v v.ended refl (none_tail v.short_equals v.tail v.last v.ended (step_line calls.next u (option_reply name) v at.upto.line next) none) empty))
+    (ends_here v v.ended refl (no_tail_left v (step_line calls.next u (option_reply name) v at.upto.line next) none) empty))
     (λ p m other means.
-    let normal : ¬ IsNormalIn v.ended (v.words ++ p ∷ []) = subst (λ ws. ¬ IsNormalIn v.ended ws) (sym (ap (λ l. l ++ (p ∷ [])) empty)) (subst (λ b. ¬ IsPlain b p) (sym before) other) in
-    never_later (p ∷ []) at (calm_at_option u v name next (p ∷ [])) (lacks_more d l u v name index (p ∷ []) next found k none normal) m means)
+    let normal : ¬ IsNormalIn v.ended (v.words ++ p ∷ []) = subst (λ ws. ¬ IsNormalIn v.ended ws) (sym (appended v.words (p ∷ []) empty)) (subst (λ b. ¬ IsPlain b p) (sym before) other) in
+    let stops = lacks d l (longer (p ∷ []) u) (longer (p ∷ []) v) (longer (p ∷ []) v) name index (calls.values 1) (several_due d name 1 k) (option_more u v name (p ∷ []) next) found (inl (lack_more v 1 (p ∷ []) none normal)) in
+    no_front d (words ++ p ∷ []) l (missing_value index stops.0) (later (p ∷ []) at (calm_at_option u v name next (p ∷ [])) stops.1) tt m means)
   where
     before : v.ended ≡ false
     before = option_before_separator u v name at.upto.line next
@@ -247,9 +258,13 @@ first_due d words l o u v name index sound at next found k none empty = leaves_f
 pub values_nowhere : (d : Declaration) (words : List (List ℕ)) (l : List Parsed) (o : Option ℕ) (u v : UnreadLine) (name : Name) (index : ℕ) → Reached d (start d.short_equals words) l o u
     → Next u (option_reply name) v → index_of d.options name ≡ Some index → kind (table d.options) name ≡ spec.several → pending v ≡ None → ¬ IsNormalIn v.ended v.words → v.words ≢ [] → LeadsNowhere d words
 values_nowhere d words l o u v name index at next found k none normal some = record {
-  here = never_here at (values_stop d l u v name index next found k none normal);
-  with_more = λ p. never_later (p ∷ []) at (calm_at_option u v name next (p ∷ []))
-      (lacks_more d l u v name index (p ∷ []) next found k none (not_normal_more v.ended v.words (p ∷ []) (λ empty. absurd (some empty)) normal));
+  here = λ m means.
+      let stops = values_stop d l u v name index next found k none normal in
+      no_front d words l (missing_value index stops.0) (here at stops.1) tt m means;
+  with_more = λ p m means.
+      let stops = lacks d l (longer (p ∷ []) u) (longer (p ∷ []) v) (longer (p ∷ []) v) name index (calls.values 1) (several_due d name 1 k) (option_more u v name (p ∷ []) next) found
+      (inl (lack_more v 1 (p ∷ []) none (not_normal_more v.ended v.words (p ∷ []) (λ empty. absurd (some empty)) normal))) in
+      no_front d (words ++ p ∷ []) l (missing_value index stops.0) (later (p ∷ []) at (calm_at_option u v name next (p ∷ [])) stops.1) tt m means;
 }
 
 -- ---- a mistake before the end

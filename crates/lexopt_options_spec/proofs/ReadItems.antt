@@ -1,12 +1,12 @@
 -- The items of a reading that reaches the end are read one by one.
-use Rattle.lexopt_options_spec.proofs.Common.{◌≡◌, ◌≤◌, ℕ, zero, suc, List, ◌∷◌, length, Option, Some, None, refl, sym, subst, inl, arith, UnreadLine, ValuesStep}
-use Rattle.lexopt_options_spec.proofs.Common.{Call, Run, StepWithMemory, AskedAfter, last, more, IsReading, ReadsFirst, ReadsItems, first_positional, first_flag, first_one}
+use Rattle.lexopt_options_spec.proofs.Common.{◌≡◌, ◌≤◌, ℕ, zero, suc, List, ◌∷◌, length, take, Option, Some, None, refl, sym, subst, inl, arith, UnreadLine, spelling, ValuesStep, available, no_values}
+use Rattle.lexopt_options_spec.proofs.Common.{some_values, Call, Run, StepWithMemory, AskedAfter, last, more, IsReading, ReadsFirst, ReadsItems, first_positional, first_flag, first_one}
 use Rattle.lexopt_options_spec.proofs.Common.{first_optional, first_several, items_of_replies, item_after, option_reply, GoesOn, IsFull, with_memory}
 use Rattle.lexopt_spec.specs.Steps as steps
 use Rattle.lexopt_spec.specs.Steps.{Reply, Next, NextStep, ValueStep, OptionalStep, pending_value, takes_word, nothing_to_take, optional_pending, optional_none}
 use Rattle.lexopt_spec.specs.Runs as calls
 use Rattle.lexopt_line_spec.specs.Table.{Item, Kind, Name, Table, short, long, kind, flag, one, optional, several, option, many, positional}
-use Rattle.lexopt_line_spec.proofs.ReplyKinds.{value_reply, optional_reply}
+use Rattle.lexopt_line_spec.proofs.ReplyKinds.{next_reply, value_reply, optional_reply}
 use Rattle.lexopt_line_spec.proofs.Readings.{flag_item}
 
 -- these items are read one by one, and then the line ends
@@ -17,13 +17,17 @@ pub record ReadsAll (t : Table) (u : UnreadLine) (items : List Item) (after : Un
 
 -- what a call for values returns, unless there are none
 value_came : (v w : UnreadLine) (r : Reply) → ((o : _) → r ≡ steps.missing o → ⊥) → ValueStep v r w → (word : List ℕ) × (r ≡ steps.taken word)
-value_came v w r some step = grind arith
+value_came v w r some (pending_value value by_equals has is after) = (value, is)
+value_came v w r some (takes_word word ws none left is after) = (word, is)
+value_came v w r some (nothing_to_take none empty is after) = absurd (some (spelling v.last) is)
 
 maybe_came : (v w : UnreadLine) (r : Reply) → OptionalStep v r w → (value : Option (List ℕ)) × (r ≡ steps.maybe value)
-maybe_came v w r step = grind arith
+maybe_came v w r (optional_pending value by_equals has is after) = (Some value, is)
+maybe_came v w r (optional_none none is after) = (None, is)
 
 values_came : (n : ℕ) (v w : UnreadLine) (r : Reply) → ((o : _) → r ≡ steps.missing o → ⊥) → ValuesStep n v r w → (values : List (List ℕ)) × (r ≡ steps.items values)
-values_came n v w r some step = grind arith
+values_came n v w r some (no_values none is after) = absurd (some (spelling v.last) is)
+values_came n v w r some (some_values left is after) = (take n (available v), is)
 
 -- what holds for a shorter list of calls
 abbrev Shorter : Table → UnreadLine → ℕ → Type 0
@@ -75,7 +79,10 @@ reply_parsed t u v after n (steps.short c) l cs rs step goes small asked run lat
 reply_parsed t u v after n (steps.long name) l cs rs step goes small asked run later = option_parsed t (long name) l u v after n cs rs (sym goes) (inl step) small asked run later
 reply_parsed t u v after n (steps.positional word) l cs rs step goes small asked run later =
     item_first t u v after n (positional word) l cs rs (first_positional word v (inl step)) goes small asked run later
-reply_parsed t u v after n reply l cs rs step goes small asked run later = grind arith
+reply_parsed t u v after n (steps.taken word) l cs rs step goes small asked run later = absurd (next_reply u v (steps.taken word) step)
+reply_parsed t u v after n (steps.maybe word) l cs rs step goes small asked run later = absurd (next_reply u v (steps.maybe word) step)
+reply_parsed t u v after n (steps.items words) l cs rs step goes small asked run later = absurd (next_reply u v (steps.items words) step)
+reply_parsed t u v after n r l cs rs step goes small asked run later = absurd goes
 
 line_parsed : (t : Table) (u after : UnreadLine) (n : ℕ) (cs : List Call) (rs : List Reply) → length cs ≤ suc n → AskedAfter t steps.end flag cs rs → Run u cs rs after → Shorter t after n → ReadsAll t u (items_of_replies rs) after
 line_parsed t u after n cs rs small (last k call due stops) run later = record {

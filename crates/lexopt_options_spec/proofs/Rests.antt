@@ -5,8 +5,7 @@ use Rattle.lexopt_options_spec.proofs.Common.{Declaration, is_sound, table, Pars
 use Rattle.lexopt_spec.specs.Steps as steps
 use Rattle.lexopt_spec.specs.Steps.{Next, NextStep, no_word_left, word_left, no_word, reads_separator, reads_long, reads_cluster, reads_positional, joined_value, equals_value, next_in_cluster, after_separator, next_word}
 use Rattle.lexopt_options_spec.specs.Rest.{CanBegin, IsSplit, RestStart, separated, surplus}
-use Rattle.lexopt_options_spec.proofs.Cuts.{cut, ends_here, enough, step_any, with_words}
-use Rattle.lexopt_options_spec.proofs.Growing.{items_cut}
+use Rattle.lexopt_options_spec.proofs.Cuts.{ends_here, enough, items_cut, step_cut, with_words}
 use Rattle.lexopt_options_spec.proofs.Fronts.{read_spells}
 use Rattle.lexopt_options_spec.proofs.Lists.{joined}
 
@@ -98,8 +97,8 @@ says {d} {words} {l} {u} {v} sound reads ends = record {
 -- the words before those that are left, if no value is pending
 pub before_here : (d : Declaration) → is_sound d.options ≡ true → (words : List (List ℕ)) (l : List Parsed) (u : UnreadLine) → ReadsUpTo d (start d.short_equals words) l u → u.tail ≡ no_tail → (before : List (List ℕ)) × (words ≡ before ++ u.words) × Says d before l
 before_here d sound words l u read none =
-    let own = items_cut (table d.options) (start d.short_equals words) u read.items [] u.words tt refl read.read in
-    (own.0, own.1, says sound (record { items = read.items; reads = own.2; parsed = read.parsed }) (ends_here (with_words [] u) u.ended refl none refl))
+    let own = items_cut (table d.options) (start d.short_equals words) u read.items [] u.words refl read.read in
+    (own.before, own.words_are, says sound (record { items = read.items; reads = own.holds; parsed = read.parsed }) (ends_here (with_words [] u) u.ended refl none refl))
 
 pub front_read : (begins : RestStart) (d : Declaration) → is_sound d.options ≡ true → (words : List (List ℕ)) (l : List Parsed) (u w : UnreadLine) (word : List ℕ) → ReadsUpTo d (start d.short_equals words) l u → Starts begins d l u w
     → Next u (steps.positional word) w → FrontRead begins d words l word w.words
@@ -107,25 +106,25 @@ front_read begins d sound words l u w word read starts next =
     let t = table d.options in
     let step = enough NextStep u (steps.positional word) w next (λ no. cc) in
     let at = word_read u w word step in
-    let front = items_cut t (start d.short_equals words) u read.items at.before (word ∷ w.words) tt at.words_are read.read in
-    let reads = cut (step_any {Passes = λ ws. Unit {0}} u w (steps.positional word) (λ is. cc) step) [] w.words refl tt in
-    let whole = items_cut t (start d.short_equals words) u read.items reads.0 w.words tt reads.1 read.read in
-    let one : whole.0 ≡ front.0 ++ word ∷ [] =
-    append_cancel_right whole.0 (front.0 ++ word ∷ []) w.words (sym whole.1 ∙ front.1 ∙ sym (append_assoc front.0 (word ∷ []) w.words)) in
-    let before : ReadsAs d (start d.short_equals front.0) l (with_words at.before u) = record { items = read.items; reads = front.2; parsed = read.parsed } in
-    let longer : ReadsAs d (start d.short_equals whole.0) l (with_words reads.0 u) = record { items = read.items; reads = whole.2; parsed = read.parsed } in
+    let front = items_cut t (start d.short_equals words) u read.items at.before (word ∷ w.words) at.words_are read.read in
+    let reads = step_cut u w (steps.positional word) [] w.words refl step in
+    let whole = items_cut t (start d.short_equals words) u read.items reads.before w.words reads.words_are read.read in
+    let one : whole.before ≡ front.before ++ word ∷ [] =
+    append_cancel_right whole.before (front.before ++ word ∷ []) w.words (sym whole.words_are ∙ front.words_are ∙ sym (append_assoc front.before (word ∷ []) w.words)) in
+    let before : ReadsAs d (start d.short_equals front.before) l (with_words at.before u) = record { items = read.items; reads = front.holds; parsed = read.parsed } in
+    let longer : ReadsAs d (start d.short_equals whole.before) l (with_words reads.before u) = record { items = read.items; reads = whole.holds; parsed = read.parsed } in
     record {
-      front = front.0;
+      front = front.before;
       split = record {
-        words_are = front.1;
+        words_are = front.words_are;
         l = l;
         says = says sound before at.ends;
-        here = can_begin begins at starts front.0 front.1;
+        here = can_begin begins at starts front.before front.words_are;
         begins = subst (λ ws. Says d ws (l ++ positional word ∷ [])) one
-            (says sound (one_more longer (first_positional word (with_words [] w) (inl reads.2)) refl) (ends_here (with_words [] w) w.ended refl at.none refl));
+            (says sound (one_more longer (first_positional word (with_words [] w) (inl reads.holds)) refl) (ends_here (with_words [] w) w.ended refl at.none refl));
       };
       there = with_words at.before u;
-      read = record { items = read.items; read = front.2; line = read.line; parsed = read.parsed; within = read.within };
+      read = record { items = read.items; read = front.holds; line = read.line; parsed = read.parsed; within = read.within };
       after = at.after;
       ends = inl at.ends;
     }

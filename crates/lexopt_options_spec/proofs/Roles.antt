@@ -1,8 +1,8 @@
 -- What a word is in its place: the same, whichever word it is.
-use Rattle.lexopt_options_spec.proofs.Common.{◌≡◌, ◌≢◌, ◌<◌, ◌≤◌, ◌+◌, ℕ, suc, Bool, false, List, [], ◌∷◌, ◌++◌, map, length, drop, nat_eq, Option, Some, None, refl, sym, ap, subst, ◌∙◌}
-use Rattle.lexopt_options_spec.proofs.Common.{inl, inr, arith, length-append, starts_with, false≢true, Decides-eqb, same_Some, dash, no_tail, rest_of, Tail, UnreadLine, pending_in}
+use Rattle.lexopt_options_spec.proofs.Common.{◌≡◌, ◌≢◌, ◌<◌, ◌≤◌, ◌+◌, ℕ, suc, Bool, true, false, List, [], ◌∷◌, ◌++◌, map, length, drop, nat_eq, Option, Some, None, cond, refl, sym, ap, subst, ◌∙◌}
+use Rattle.lexopt_options_spec.proofs.Common.{inl, inr, arith, length-append, ◌&&◌, ◌==◌, starts_with, false≢true, Decides-eqb, same_Some, dash, equals, no_tail, rest_of, Tail, UnreadLine, pending_in}
 use Rattle.lexopt_options_spec.proofs.Common.{BeginsWith, IsPlain, ValuesStep, Name, Item, Table, ReadsFirst, ReadsItems, first_positional, first_flag, first_one, first_optional, first_several}
-use Rattle.lexopt_options_spec.proofs.Common.{option_reply, option_given, shorter, Declaration, Declared, Parsed, parsed_item, EndsWith, Extends, HasRole, Role, role_of, map_push}
+use Rattle.lexopt_options_spec.proofs.Common.{option_reply, option_given, shorter, Declaration, Declared, index_of, Parsed, parsed_item, EndsWith, Extends, HasRole, Role, role_of, map_push}
 use Rattle.lexopt_options_spec.proofs.Common.{HandedItems, hands_nothing, hands_pending, hands_words, optional_hands, value_hands, values_hands}
 use Rattle.std.proofs.lemmas.Slice.Eq.{starts_is}
 use Rattle.lexopt_spec.specs.Pieces.{after_first_piece}
@@ -10,10 +10,13 @@ use Rattle.lexopt_spec.specs.UnreadLine as unread
 use Rattle.lexopt_spec.specs.Steps as steps
 use Rattle.lexopt_spec.specs.Steps.{Reply, NextStep, ValueStep, OptionalStep, ReadsShort, alone, with_value, no_word_left, word_left, no_word, reads_separator, reads_long, reads_cluster, reads_positional, joined_value, equals_value, next_in_cluster, after_separator, next_word, pending_value, takes_word, nothing_to_take, optional_pending, optional_none}
 use Rattle.lexopt_line_spec.specs.Table as spec
-use Rattle.lexopt_options_spec.proofs.Cuts.{enough, longer}
+use Rattle.lexopt_options_spec.specs.Legal as legal
+use Rattle.lexopt_options_spec.proofs.Cuts.{enough}
 use Rattle.lexopt_options_spec.proofs.Fronts.{one_front}
-use Rattle.lexopt_options_spec.proofs.Lists.{same_last, both_empty, not_empty}
+use Rattle.lexopt_options_spec.proofs.Growing.{longer}
+use Rattle.lexopt_options_spec.proofs.Lists.{first_same, same_last, both_empty, not_empty}
 use Rattle.lexopt_options_spec.proofs.Occurs.{longer as no_longer}
+use Rattle.lexopt_options_spec.proofs.Sound.{known}
 use Rattle.lexopt_spec.specs.Account.{handed_items}
 
 -- ---- a value in the word of its option is shorter than the word
@@ -35,10 +38,16 @@ pub record Alone (p : List ℕ) (u : UnreadLine) : Type 0 where
   pub word : (x : List ℕ) (ws : List (List ℕ)) → u.words ≡ x ∷ ws → (u.ended ≡ false) × (x ≡ p) × (ws ≡ []) × ¬ IsPlain false p
 
 low_alone : (p : List ℕ) (u : UnreadLine) → Low (length p) u → Alone p u
-low_alone p u low = grind arith
+low_alone p u low = record {
+  bytes = λ bytes is. (low.none, subst (λ tail. length (bytes_of tail) < length p) is low.less);
+  word = λ x ws is. absurd (let e : [] ≡ x ∷ ws = sym low.none ∙ is in cc);
+}
 
 pub word_alone : (p : List ℕ) (u : UnreadLine) → u.words ≡ p ∷ [] → u.tail ≡ no_tail → u.ended ≡ false → ¬ IsPlain false p → Alone p u
-word_alone p u one none not plain = grind arith
+word_alone p u one none not plain = record {
+  bytes = λ bytes is. absurd (let e : no_tail ≡ unread.rest bytes = sym none ∙ is in cc);
+  word = λ x ws is. let same = first_same x p ws [] (sym is ∙ one) in (not, same.0, same.1, plain);
+}
 
 -- what `next` leaves
 abbrev After : ℕ → UnreadLine → Reply → Type 0
@@ -54,7 +63,8 @@ short_low n bytes u v r none less reads = subst (After n v) (sym reads.reply_is)
 })
   where
     rest_less : (left : List ℕ) → length left < n → length (bytes_of (rest_of left)) < n
-    rest_less x0 less = grind arith
+    rest_less [] less = less
+    rest_less (b ∷ bs) less = less
 
     left_less : (bytes : List ℕ) → bytes ≢ [] → length bytes < n → length (after_first_piece bytes) < n
     left_less [] some less = absurd (some refl)
@@ -68,7 +78,8 @@ next_low p u v r lone (after_separator none ended (no_word_left empty r_is after
 next_low p u v r lone (after_separator none ended (word_left w ws some r_is after)) = absurd (false≢true (sym (lone.word w ws some).0 ∙ ended))
 next_low p u v r lone (next_word none before (no_word empty r_is after)) = subst (After (length p) v) (sym r_is) tt
 next_low p u v r lone (next_word none before (reads_separator ws some (no_word_left empty r_is after))) = subst (After (length p) v) (sym r_is) tt
-next_low p u v r lone (next_word none before (reads_separator ws some (word_left w more some_more r_is after))) = grind arith
+next_low p u v r lone (next_word none before (reads_separator ws some (word_left w more some_more r_is after))) =
+    absurd (let e : [] ≡ w ∷ more = sym (lone.word _ ws some).2 ∙ some_more in cc)
 next_low p u v r lone (next_word none before (reads_long text name tail ws some other named r_is after)) =
     let word = lone.word (dash ∷ dash ∷ text) ws some in
     subst (After (length p) v) (sym r_is) (record {
@@ -77,18 +88,33 @@ next_low p u v r lone (next_word none before (reads_long text name tail ws some 
     })
   where
     value_less : (tail : Tail) → steps.IsLongOption text name tail → length (bytes_of tail) < suc (suc (length text))
-    value_less tail x1 = grind (arith, length-append)
-next_low p u v r lone (next_word none before (reads_cluster bytes ws some other reads)) = grind (arith, short_low)
+    value_less tail (alone whole same) = omega arith
+    value_less tail (with_value value whole same) = let a = ap length same in let b = length-append name (equals ∷ value) in omega (arith, a, b)
+next_low p u v r lone (next_word none before (reads_cluster bytes ws some other reads)) =
+    let word = lone.word (dash ∷ bytes) ws some in
+    short_low (length p) bytes (record u { words = ws }) v r word.2 (subst (λ x. length bytes < length x) word.1 (omega arith)) reads
 next_low p u v r lone (next_word none before (reads_positional w ws some plain r_is after)) = let word = lone.word w ws some in absurd (word.3 (subst (IsPlain false) word.1 plain))
+
+abbrev value_in : Option (List ℕ × Bool) → List ℕ
+value_in None = []
+value_in (Some (value, by_equals)) = value
 
 -- a value that is pending
 pending_less : (on : Bool) (tail : Tail) (value : List ℕ) (by_equals : Bool) → pending_in on tail ≡ Some (value, by_equals) → length value ≤ length (bytes_of tail)
-pending_less on tail value by_equals is = grind arith
+pending_less on (unread.joined own) value by_equals is = let e = ap (λ o. length (value_in o)) is in omega (arith, e)
+pending_less on (unread.rest (b ∷ bs)) value by_equals is = at (on && b == equals) is
+  where
+    at : (marked : Bool) → cond {A = Option (List ℕ × Bool)} marked (Some (bs, true)) (Some (b ∷ bs, false)) ≡ Some (value, by_equals) → length value ≤ suc (length bs)
+    at true is = let e = ap (λ o. length (value_in o)) is in omega (arith, e)
+    at false is = let e = ap (λ o. length (value_in o)) is in omega (arith, e)
+pending_less on tail value by_equals is = cc
 
 -- the last of the values that are taken there has fewer bytes
 values_low : (n : ℕ) (v w : UnreadLine) (l : List (List ℕ)) → Low n v → HandedItems v l w → ((front : List (List ℕ)) (p : List ℕ) → l ≡ front ++ p ∷ [] → length p < n) × Low n w
 values_low n v w l low (hands_nothing none after) = ((λ front p is. absurd (not_empty front [] p (sym is ∙ none))), subst (Low n) (sym after) low)
-values_low n v w l low (hands_words left none are after) = grind (arith, both_empty)
+values_low n v w l low (hands_words left none are after) =
+    let empty = both_empty l left (sym are ∙ low.none) in
+    ((λ front p is. absurd (not_empty front [] p (sym is ∙ empty.0))), subst (Low n) (sym after) (record { none = empty.1; less = low.less }))
 values_low n v w l low (hands_pending value by_equals front left has is are after) =
     let empty = both_empty front left (sym are ∙ low.none) in
     let fewer = pending_less v.short_equals v.tail value by_equals has in
@@ -120,12 +146,19 @@ first_low t p u w x lone (first_several name n words v z k step few takes) =
     let low = values_low (length p) v w words (option_low p u v name lone step) (values_hands n v (steps.items words) w (enough (ValuesStep n) v (steps.items words) w takes (λ none. cc))) in
     ((λ whole. let less = low.0 whole.0 p whole.1 in omega (arith, less)), low.1)
 
+is_whole : (options : List Declared) (p : List ℕ) (x : Item) (s : Parsed) → parsed_item options x ≡ Some s → EndsWith p s → Whole p x
+is_whole options p (spec.option name v) s is whole = let index = known (λ i. legal.option i v) (index_of options name) s is in subst (EndsWith p) (sym index.2) whole
+is_whole options p (spec.many name vs) s is whole = let index = known (λ i. legal.several i vs) (index_of options name) s is in subst (EndsWith p) (sym index.2) whole
+is_whole options p (spec.positional word) s is whole = subst (EndsWith p) (sym (same_Some (legal.positional word) s is)) whole
+
 -- what is read last does not end with the word
 pub not_whole : (options : List Declared) (t : Table) (p : List ℕ) (u w : UnreadLine) (items : List Item) (front : List Parsed) (s : Parsed) → Alone p u → ReadsItems t u items w
     → map (parsed_item options) items ≡ map (λ s. Some s) (front ++ s ∷ []) → EndsWith p s → ⊥
 not_whole options t p u w (x ∷ items) [] s lone (v, first, others) are whole =
-    (first_low t p u v x lone first).0 (grind arith)
-not_whole options t p u w (x ∷ items) (f ∷ front) s lone (v, first, others) are whole = grind (arith, not_whole options t p v w items front s (low_alone p v (first_low t p u v x lone first).1) others)
+    (first_low t p u v x lone first).0 (is_whole options p x s (first_same (parsed_item options x) (Some s) (map (parsed_item options) items) [] are).0 whole)
+not_whole options t p u w (x ∷ items) (f ∷ front) s lone (v, first, others) are whole =
+    not_whole options t p v w items front s (low_alone p v (first_low t p u v x lone first).1) others
+    (first_same (parsed_item options x) (Some f) (map (parsed_item options) items) (map (λ s. Some s) (front ++ s ∷ [])) are).1 whole
 not_whole options t p u w [] front s lone reads are whole = not_empty (map (λ s. Some s) front) [] (Some s) (sym (are ∙ map_push (λ s. Some s) front s))
 
 -- ---- a place has one role
@@ -156,7 +189,13 @@ extends typed b other = record {
 }
   where
     plain : (typed : List ℕ) → ¬ BeginsWith dash typed → IsPlain false (typed ++ b ∷ [])
-    plain x0 undashed = grind arith
+    plain [] undashed = inr (inr other)
+    plain (c ∷ typed) undashed = inr (inr undashed)
+
+ends_once : (s : Parsed) (v w : List ℕ) → EndsWith v s → EndsWith w s → v ≡ w
+ends_once (legal.option i value) v w is other = same_Some v w (sym is ∙ other)
+ends_once (legal.several i values) v w is other = (same_last is.0 other.0 v w (sym is.1 ∙ other.1)).1
+ends_once (legal.positional word) v w is other = sym is ∙ other
 
 taken_or_not : (d : Declaration) (words : List (List ℕ)) (typed : List ℕ) (role : Role) → HasRole d words typed (Some role) → HasRole d words typed None → ⊥
 taken_or_not d words typed role some none =
@@ -168,7 +207,7 @@ taken_or_not d words typed role some none =
     let b = some w w_longer in
     let same = one_front d words (a.0 ++ a.1 ∷ []) (b.0 ++ b.1 ∷ []) (none v v_longer a.0 a.1 a.2) (none w w_longer b.0 b.1 b.2) in
     let last = (same_last a.0 b.0 a.1 b.1 same).1 in
-    let e = (same_last typed typed 0x61 0x62 (grind (arith, same_Some, same_last))).1 in
+    let e = (same_last typed typed 0x61 0x62 (ends_once b.1 v w (subst (EndsWith v) last a.2.whole) b.2.whole)).1 in
     omega (arith, e)
 
 pub one_role : (d : Declaration) (words : List (List ℕ)) (typed : List ℕ) (r s : Option Role) → HasRole d words typed r → HasRole d words typed s → r ≡ s

@@ -1,13 +1,12 @@
 -- The names and the defaults of options that can be declared together.
-use Rattle.std.proofs.Common.{arith}
-use Rattle.lexopt_options_spec.proofs.Common.{◌≡◌, ◌≢◌, ℕ, Bool, true, false, ◌||◌, ◌&&◌, List, [], ◌∷◌, map, get_or, position, slice_get, take, Option, Some, None, refl, sym, ap, subst}
-use Rattle.lexopt_options_spec.proofs.Common.{◌∙◌, Contains, list_all, list_any, false≢true, and_parts, list_any_at, replacement, lossy_characters, dash, equals, Name, short, long}
+use Rattle.lexopt_options_spec.proofs.Common.{◌≡◌, ◌≢◌, ℕ, Bool, true, false, ◌==◌, ◌||◌, ◌&&◌, List, [], ◌∷◌, map, get_or, position, slice_get, take, Option, Some, None, cond, refl, sym, ap, subst}
+use Rattle.lexopt_options_spec.proofs.Common.{◌∙◌, Contains, list_all, list_any, false≢true, and_parts, eq-eqb, eqb-false, list_any_at, replacement, lossy_characters, dash, equals, Name, short, long}
 use Rattle.lexopt_options_spec.proofs.Common.{Item, Kind, option_map, option_to_list}
 use Rattle.std.proofs.lemmas.List.Quantifiers.{position-Some}
-use Rattle.std.proofs.lemmas.Option.{get_or_from_slice_get, slice_get-get_or, slice_get_within}
+use Rattle.std.proofs.lemmas.Option.{get_or_from_slice_get, same_Some, slice_get-get_or, slice_get_within}
 use Rattle.lexopt_line_spec.specs.Table as spec
 use Rattle.lexopt_line_spec.specs.Spelling.{IsWholeName, HaveWholeNames}
-use Rattle.lexopt_options_spec.specs.Declaration.{Declared, Words, accepts, bad_default, is_default, has, all_names, has_name, is_name, is_one_of, index_of, name_fault, names_fault, is_sound}
+use Rattle.lexopt_options_spec.specs.Declaration.{Declared, Reason, Words, accepts, bad_default, is_default, has, all_names, has_name, is_empty, is_name, is_one_of, index_of, name_fault, names_fault, is_sound}
 use Rattle.lexopt_options_spec.specs.Legal.{Parsed, option, several, parsed_item}
 use Rattle.lexopt_options_spec.proofs.FaultLemmas.{IsFaultless, faultless_at, neither, passes}
 use Rattle.lexopt_options_spec.proofs.Lists.{first_same}
@@ -18,11 +17,28 @@ abbrev pub IsGoodName : Name → Type 0
 IsGoodName (short c) = (c ≢ dash) × (c ≢ replacement)
 IsGoodName (long name) = (name ≢ []) × (¬ Contains name equals) × (¬ Contains (lossy_characters name) replacement)
 
+none_and : (b : Bool) (r : Reason) (rest : Option Reason) → cond b (Some r) rest ≡ None → (b ≡ false) × (rest ≡ None)
+none_and true r rest is = absurd (let e : Some r ≡ None = is in cc)
+none_and false r rest is = (refl, is)
+
 not_among : (c : ℕ) (l : List ℕ) → has c l ≡ false → ¬ Contains l c
-not_among c l is among = grind (arith, list_any_at)
+not_among c l is among =
+    false≢true (sym is ∙ list_any_at (λ b. b == c) l among.0 c among.1 (eq-eqb _ c among.2))
+
+some_bytes : (name : List ℕ) → is_empty name ≡ false → name ≢ []
+some_bytes [] is same = false≢true (sym is)
+some_bytes (b ∷ bs) is same = let e : b ∷ bs ≡ [] = same in cc
 
 good_name : (name : Name) → name_fault name ≡ None → IsGoodName name
-good_name name none = grind (arith, not_among)
+good_name (short c) none =
+    let first = none_and (c == dash) _ _ none in
+    let second = none_and (c == replacement) _ _ first.1 in
+    (eqb-false c dash first.0, eqb-false c replacement second.0)
+good_name (long name) none =
+    let first = none_and (is_empty name) _ _ none in
+    let second = none_and (has equals name) _ _ first.1 in
+    let third = none_and (has replacement (lossy_characters name)) _ _ second.1 in
+    (some_bytes name first.0, not_among equals name second.0, not_among replacement (lossy_characters name) third.0)
 
 pub either : (a b : Bool) (P : Type 0) → (a || b) ≡ true → (a ≡ true → P) → (b ≡ true → P) → P
 either true b P is one other = one refl
@@ -76,12 +92,16 @@ good options name i sound is =
 -- ---- what is read has names that can be declared
 
 whole : (name : Name) → IsGoodName name → IsWholeName name
-whole name is = grind arith
+whole (short c) is = is.1
+whole (long name) is = is.2
 
 pub known : {X Y : Type 0} (f : X → Y) (o : Option X) (y : Y) → option_map f o ≡ Some y → (x : X) × (o ≡ Some x) × (f x ≡ y)
-known f o y is = grind arith
+known f None y is = absurd (let e : None ≡ Some y = is in cc)
+known f (Some x) y is = (x, refl, same_Some (f x) y is)
 
 pub whole_names : (options : List Declared) → is_sound options ≡ true → (items : List Item) (l : List Parsed) → map (parsed_item options) items ≡ map (λ s. Some s) l → HaveWholeNames items
+whole_names options sound [] l is = tt
+whole_names options sound (item ∷ items) [] is = absurd (let e : parsed_item options item ∷ map (parsed_item options) items ≡ [] = is in cc)
 whole_names options sound (spec.option name value ∷ items) (s ∷ l) is =
     let parts = first_same _ (Some s) (map (parsed_item options) items) (map (λ s. Some s) l) is in
     let index = known (λ i. option i value) (index_of options name) s parts.0 in
@@ -93,4 +113,3 @@ whole_names options sound (spec.many name values ∷ items) (s ∷ l) is =
 whole_names options sound (spec.positional word ∷ items) (s ∷ l) is =
     let parts = first_same _ (Some s) (map (parsed_item options) items) (map (λ s. Some s) l) is in
     whole_names options sound items l parts.1
-whole_names options sound it l is = grind arith

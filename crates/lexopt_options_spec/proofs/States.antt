@@ -1,14 +1,13 @@
 -- What a word is, by the state that the words before it leave.
-use Rattle.lexopt_options_spec.proofs.Common.{◌≡◌, ◌+◌, ◌↔◌, ℕ, Bool, true, false, List, [], ◌∷◌, ◌++◌, map, length, Some, None, refl, sym, ap, subst, ◌∙◌}
-use Rattle.lexopt_options_spec.proofs.Common.{arith, append_assoc, length-append, true≢false, false≢true, append-nil, dash, BeginsWith, IsPlain, TailFits}
+use Rattle.lexopt_options_spec.proofs.Common.{if◌then◌else◌, ◌≡◌, ◌≢◌, ◌≤◌, ◌+◌, ◌==◌, ◌⊎◌, ◌↔◌, ℕ, Bool, true, false, List, [], ◌∷◌, ◌++◌, map, length, Option, Some, None, refl, sym, ap, subst, ◌∙◌}
+use Rattle.lexopt_options_spec.proofs.Common.{inl, inr, arith, append_assoc, length-append, true≢false, eqb-true, false≢true, eqb_tells, append-nil, dash, BeginsWith, IsPlain, TailFits}
 use Rattle.lexopt_options_spec.proofs.Common.{UnreadLine, start, Table, Declaration, table, Parsed, positional_count, positional_words, most, IsWithin, MeansFront}
-use Rattle.lexopt_options_spec.proofs.Common.{EndsWith, Extends, HasRole, IsOpen, value, role_of, State, Says, SaysOpenly, Leaves, leaves_anything, leaves_due, leaves_first, leaves_further}
-use Rattle.lexopt_options_spec.proofs.Common.{leaves_ended, LeadsNowhere, opens, room, role_in}
+use Rattle.lexopt_options_spec.proofs.Common.{EndsWith, Extends, HasRole, IsOpen, argument, value, role_of, State, Says, SaysOpenly, Leaves, leaves_anything, leaves_due, leaves_first, leaves_further}
+use Rattle.lexopt_options_spec.proofs.Common.{leaves_ended, LeadsNowhere, opens, is_full, room, role_in}
 use Rattle.std.specs.Bool.{IsTrue}
 use Rattle.lexopt_options_spec.specs.Legal as legal
 use Rattle.lexopt_options_spec.proofs.Fronts.{Rest, rest_of, same_parsed}
-use Rattle.lexopt_options_spec.proofs.Cuts.{longer}
-use Rattle.lexopt_options_spec.proofs.Growing.{items_calm}
+use Rattle.lexopt_options_spec.proofs.Growing.{items_calm, longer}
 use Rattle.lexopt_options_spec.proofs.Lists.{Ending, has_none, has_last, ending, count_append, same_last}
 use Rattle.lexopt_options_spec.proofs.OneRest.{OpenRead, open_read}
 use Rattle.lexopt_options_spec.proofs.OpenLines.{dashes}
@@ -29,12 +28,23 @@ says_once d words l m says other = same_parsed d words l m says.items other.item
 
 -- one more thing that is no positional
 with_other : (d : Declaration) (words : List (List ℕ)) (l : List Parsed) (s : Parsed) → legal.counts s ≡ 0 → IsWithin (positional_count l) (most d.positionals) → Says d words (l ++ s ∷ []) → MeansFront d words (l ++ s ∷ [])
-with_other d words l s none within says = grind (arith, count_append)
+with_other d words l s none within says = says_front d words (l ++ s ∷ []) says (subst (λ n. IsWithin n (most d.positionals)) same within)
+  where
+    same : positional_count l ≡ positional_count (l ++ s ∷ [])
+    same = let a = count_append l (s ∷ []) in omega (arith, a, none)
 
 -- ---- where an option can come
 
+says_open : (d : Declaration) (words : List (List ℕ)) (l : List Parsed) → SaysOpenly d words l → IsWithin (positional_count l) (most d.positionals) → IsOpen d words l
+says_open d words l says within = record {
+  front = says_front d words l says.says within;
+  with_separator = says_front d (words ++ dashes ∷ []) l says.with_separator within;
+}
+
 pub open_there : (d : Declaration) (words : List (List ℕ)) (l : List Parsed) (s : State) → Leaves d words l s → IsWithin (positional_count l) (most d.positionals) → opens s ≡ true → IsOpen d words l
-open_there d words l s it within is = grind arith
+open_there d words l s (leaves_anything says plain) within is = says_open d words l says within
+open_there d words l s (leaves_further i before values are says plain) within is = says_open d words l says within
+open_there d words l s leaves within is = absurd (false≢true is)
 
 pub never_open : (d : Declaration) (words : List (List ℕ)) (l : List Parsed) (s : State) → Leaves d words l s → opens s ≡ false → (m : List Parsed) → IsOpen d words m → ⊥
 never_open d words l s (leaves_due i none all) is m is_open = none m is_open.front
@@ -52,10 +62,43 @@ never_open d words l s leaves is m is_open = true≢false is
 count_more : (l : List Parsed) (w : List ℕ) → positional_count (l ++ legal.positional w ∷ []) ≡ positional_count l + 1
 count_more l w = let a = count_append l (legal.positional w ∷ []) in omega (arith, a)
 
+over : (limit : Option ℕ) (n k : ℕ) → is_full limit n ≡ true → k ≡ n + 1 → IsWithin k limit → ⊥
+over None n k full more within = false≢true full
+over (Some m) n k full more within = let e : m ≡ n = eqb-true m n full in omega (arith, e, more, within)
+
+below : (limit : Option ℕ) (n k : ℕ) → is_full limit n ≡ false → k ≡ n + 1 → IsWithin n limit → IsWithin k limit
+below None n k full more within = tt
+below (Some m) n k full more within = at (eqb_tells m n)
+  where
+    at : (((m == n) ≡ true) × (m ≡ n)) ⊎ (((m == n) ≡ false) × (m ≢ n)) → k ≤ m
+    at (inl same) = absurd (true≢false (sym same.0 ∙ full))
+    at (inr other) = let e = other.1 in omega (arith, e, more, within)
+
 -- each of the words is a positional
 room_there : (d : Declaration) (words : List (List ℕ)) (typed : List ℕ) (l : List Parsed) → IsWithin (positional_count l) (most d.positionals)
     → ((w : List ℕ) → Extends typed w → Says d (words ++ w ∷ []) (l ++ legal.positional w ∷ [])) → HasRole d words typed (room d.positionals (positional_words l))
-room_there d words typed l within says = grind (arith, says_once, count_more, says_front, words_count)
+room_there d words typed l within says = at (is_full (most d.positionals) (length (positional_words l))) refl
+  where
+    none : is_full (most d.positionals) (positional_count l) ≡ true → HasRole d words typed None
+    none full w longer before last takes =
+        let same = says_once d (words ++ w ∷ []) (before ++ last ∷ []) (l ++ legal.positional w ∷ []) (front_says d (words ++ w ∷ []) (before ++ last ∷ []) takes.means) (says w longer) in
+        absurd (over (most d.positionals) (positional_count l) (positional_count (before ++ last ∷ [])) full (ap positional_count same ∙ count_more l w) takes.means.within)
+
+    one : is_full (most d.positionals) (positional_count l) ≡ false → HasRole d words typed (Some (argument (positional_words l)))
+    one free w longer = (
+      l,
+      legal.positional w,
+      record {
+        means = says_front d (words ++ w ∷ []) (l ++ legal.positional w ∷ []) (says w longer)
+            (below (most d.positionals) (positional_count l) (positional_count (l ++ legal.positional w ∷ [])) free (count_more l w) within);
+        whole = refl;
+      },
+      refl,
+    )
+
+    at : (b : Bool) → is_full (most d.positionals) (length (positional_words l)) ≡ b → HasRole d words typed (if b then None else Some (argument (positional_words l)))
+    at true full = none (subst (λ n. is_full (most d.positionals) n ≡ true) (words_count l) full)
+    at false free = one (subst (λ n. is_full (most d.positionals) n ≡ false) (words_count l) free)
 
 -- these words, with a word after them, mean nothing
 no_role : (d : Declaration) (words : List (List ℕ)) (typed : List ℕ) → ((w : List ℕ) → Extends typed w → (m : List Parsed) → ¬ MeansFront d (words ++ w ∷ []) m) → HasRole d words typed None
@@ -65,7 +108,15 @@ no_role d words typed none w longer before last takes = absurd (none w longer (b
 value_there : (d : Declaration) (words : List (List ℕ)) (typed : List ℕ) (l : List Parsed) (i : ℕ) (s : List ℕ → Parsed) → IsWithin (positional_count l) (most d.positionals)
     → ((w : List ℕ) → legal.counts (s w) ≡ 0) → ((w : List ℕ) → EndsWith w (s w)) → ((w : List ℕ) → role_of l (s w) ≡ value i)
     → ((w : List ℕ) → Extends typed w → Says d (words ++ w ∷ []) (l ++ s w ∷ [])) → HasRole d words typed (Some (value i))
-value_there d words typed l i s within none whole role says w longer = grind (arith, with_other)
+value_there d words typed l i s within none whole role says w longer = (
+  l,
+  s w,
+  record {
+    means = with_other d (words ++ w ∷ []) l (s w) (none w) within (says w longer);
+    whole = whole w;
+  },
+  role w,
+)
 
 -- An option can come after these words: a word with a dash first that is longer than what was typed
 -- is the separator, or options, and what is read last is shorter than the word.

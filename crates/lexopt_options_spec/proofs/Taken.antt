@@ -1,11 +1,12 @@
 -- Which words are accepted by the positionals that they belong to.
 use Rattle.lexopt_options_spec.proofs.Common.{◌≡◌, ◌≤◌, ◌<◌, ◌+◌, ◌-◌, ◌⊎◌, ℕ, zero, suc, Bool, true, false, List, [], ◌∷◌, ◌++◌, map, length, max, min, drop, length-drop, take, take-take, take_all}
-use Rattle.lexopt_options_spec.proofs.Common.{replicate, slice_get, Option, Some, None, is_none, cond, unwrap_or, refl, sym, ap, subst, ◌∙◌, arith, inl, inr, length-append, and_parts}
-use Rattle.lexopt_options_spec.proofs.Common.{false≢true, length-map, length-replicate, take-append-le, take-replicate, sum_by, option_map, Count, Positional, once, at_most_once, any_number}
+use Rattle.lexopt_options_spec.proofs.Common.{replicate, slice_get, Option, Some, None, is_none, cond, unwrap_or, refl, sym, ap, subst, ◌∙◌, arith, inl, inr, ⊎_elim, length-append, and_parts}
+use Rattle.lexopt_options_spec.proofs.Common.{cases_lt, false≢true, length-map, length-replicate, take-append-le, take-replicate, sum_by, option_map, Count, Positional, once, at_most_once, any_number}
 use Rattle.lexopt_options_spec.proofs.Common.{at_least_once, are_listable, list_fault, CanBeTaken, IsWithin, Parsed, positional, most, positional_count, positional_words, AreShares, AreTaken}
 use Rattle.lexopt_options_spec.proofs.Common.{ArePlaces, IsNotTaken, extra, greedy, least, needs, owners, refused_word, takes_at, sum_by-cons}
 use Rattle.lexopt_options_spec.proofs.Listed.{value_fits, value_for}
 use Rattle.lexopt_options_spec.proofs.Shares.{least_within, one_places, places_are, some_places}
+use Rattle.lexopt_options_spec.proofs.FaultLemmas.{no_fault}
 
 -- ---- the words of the positionals that are read
 
@@ -66,14 +67,22 @@ refused_front ps (i ∷ places) (w ∷ words) more is =
 refused_front ps places words more is = refl
 
 pub can_be_taken : (ps : List Positional) (words more : List (List ℕ)) → IsWithin (length (words ++ more)) (most ps) → AreTaken ps (words ++ more) → CanBeTaken ps words
-can_be_taken ps words more within taken = grind (arith, length-append, refused_front)
+can_be_taken ps words more within taken = record {
+  count = length (words ++ more);
+  longer = (let e = length-append words more in omega (arith, e));
+  within = within;
+  places = taken.places;
+  are_places = taken.are_places;
+  none = refused_front ps taken.places words more taken.none;
+}
 
 -- the places of later words do not matter
 pub refused_take : (ps : List Positional) (places : List ℕ) (words : List (List ℕ)) (n : ℕ) → length words ≤ n → refused_word ps (take n places) words ≡ refused_word ps places words
 refused_take ps [] words zero small = refl
 refused_take ps (i ∷ places) [] zero small = refl
 refused_take ps (i ∷ places) (w ∷ words) zero small = absurd (omega (arith, small))
-refused_take ps (i ∷ places) (w ∷ words) (suc n) small = grind (arith, refused_take ps places words n (omega (arith, small)))
+refused_take ps (i ∷ places) (w ∷ words) (suc n) small =
+    ap (λ o. cond (takes_at ps i w) o (Some (i, w))) (refused_take ps places words n (omega (arith, small)))
 refused_take ps places words n small = refl
 
 -- ---- words for the remaining places
@@ -85,7 +94,8 @@ sample ps i = unwrap_or (option_map (λ p. value_for p.words) (slice_get ps i)) 
 sample_fits : (ps : List Positional) (i : ℕ) → are_listable ps ≡ true → takes_at ps i (sample ps i) ≡ true
 unfolding sample
 sample_fits [] i good = refl
-sample_fits (p ∷ ps) zero good = grind (arith, value_fits)
+sample_fits (p ∷ ps) zero good =
+    let parts = and_parts (is_none (list_fault p.words)) (are_listable ps) good in value_fits p.words (no_fault (list_fault p.words) parts.0)
 sample_fits (p ∷ ps) (suc i) good =
     let parts = and_parts (is_none (list_fault p.words)) (are_listable ps) good in sample_fits ps i parts.1
 
@@ -104,7 +114,12 @@ fill_fits ps (i ∷ places) (w ∷ words) good none =
 
 pub owners_length : (i : ℕ) (shares : List ℕ) → length (owners i shares) ≡ sum_by (λ n. n) shares
 owners_length i [] = refl
-owners_length i (n ∷ shares) = search (owners_length (suc i) shares, sum_by-cons, length-replicate, length-append)
+owners_length i (n ∷ shares) =
+    let first = sum_by-cons (λ n. n) n shares in
+    let one = length-replicate n i in
+    let rest = owners_length (suc i) shares in
+    let all = length-append (replicate n i) (owners (suc i) shares) in
+    omega (arith, first, one, rest, all)
 
 -- the words that make a line legal
 pub record AreFilled (ps : List Positional) (words : List (List ℕ)) : Type 0 where
@@ -142,28 +157,35 @@ filled ps words good can =
 take_replicate : (k n i : ℕ) (rest : List ℕ) → k ≤ n → take k (replicate n i ++ rest) ≡ replicate k i
 take_replicate k n i rest small = take-append-le k (replicate n i) rest (rw length-replicate small) ∙ take-replicate k n i small
 
+one_more : (k s i : ℕ) (rest : List ℕ) → suc k ≤ s → take (suc k) (replicate (0 + min 1 s) i ++ rest) ≡ i ∷ take k rest
+one_more k s i rest small = let one : 0 + min 1 s ≡ 1 = omega (arith, small) in ap (λ n. take (suc k) (replicate n i ++ rest)) one
+
 -- the first k words belong to the same positionals whenever at least k words are not required
 same_owners : (ps : List Positional) (i k s t : ℕ) → k ≤ s → k ≤ t → take k (owners i (greedy ps s)) ≡ take k (owners i (greedy ps t))
+same_owners [] i k s t a b = refl
+same_owners (p ∷ ps) i zero s t a b = refl
 same_owners (p ∷ ps) i (suc k) s t a b = go p.count (λ r q. same_owners ps (suc i) k r q)
   where
     go : (c : Count) → ((r q : ℕ) → k ≤ r → k ≤ q → take k (owners (suc i) (greedy ps r)) ≡ take k (owners (suc i) (greedy ps q))) → take (suc k) (owners i ((needs c + extra c s) ∷ greedy ps (s - extra c s))) ≡ take (suc k) (owners i ((needs c + extra c t) ∷ greedy ps (t - extra c t)))
     go once later = ap (λ l. i ∷ l) (later (s - 0) (t - 0) (omega (arith, a)) (omega (arith, b)))
     go at_most_once later =
-        let one : 0 + min 1 s ≡ 1 = omega (arith, a) in ap (λ n. take (suc k) (replicate n i ++ (owners (suc i) (greedy ps (s - min 1 s))))) one
+        one_more k s i (owners (suc i) (greedy ps (s - min 1 s))) a
         ∙ ap (λ l. i ∷ l) (later (s - min 1 s) (t - min 1 t) (omega (arith, a)) (omega (arith, b)))
-        ∙ sym (let one : 0 + min 1 t ≡ 1 = omega (arith, b) in ap (λ n. take (suc k) (replicate n i ++ (owners (suc i) (greedy ps (t - min 1 t))))) one)
+        ∙ sym (one_more k t i (owners (suc i) (greedy ps (t - min 1 t))) b)
     go any_number later = take_replicate (suc k) (0 + s) i _ (omega (arith, a)) ∙ sym (take_replicate (suc k) (0 + t) i _ (omega (arith, b)))
     go at_least_once later = take_replicate (suc k) (1 + s) i _ (omega (arith, a)) ∙ sym (take_replicate (suc k) (1 + t) i _ (omega (arith, b)))
-same_owners ps i k s t a b = grind arith
 
 pub less_within : (limit : Option ℕ) (n m : ℕ) → n ≤ m → IsWithin m limit → IsWithin n limit
-less_within limit n m small within = grind arith
+less_within None n m small within = tt
+less_within (Some limit) n m small within = omega (arith, small, within)
 
 pub zero_within : (limit : Option ℕ) → IsWithin 0 limit
-zero_within limit = grind arith
+zero_within None = tt
+zero_within (Some n) = omega arith
 
 pub same_within : (n k : ℕ) (limit : Option ℕ) → k ≡ 0 → IsWithin n limit → IsWithin (n + k) limit
-same_within n k limit none within = grind arith
+same_within n k None none within = tt
+same_within n k (Some m) none within = omega arith
 
 -- The first k words belong to the same positionals if s words are not required, for an s that is at
 -- most k.
@@ -181,8 +203,12 @@ places_spare ps k count places longer within are = (
     spare = count - least ps
 
     same : take k (owners 0 (greedy ps spare)) ≡ take k (owners 0 (greedy ps (min k spare)))
-    same = grind (arith, same_owners)
+    same = ⊎_elim
+        (λ below. ap (λ s. take k (owners 0 (greedy ps s))) (omega (arith, below)))
+        (λ past. same_owners ps 0 k spare (min k spare) past (omega (arith, past)))
+        (cases_lt spare k)
 
 pub slice_get_take : (k : ℕ) (l : List ℕ) (n : ℕ) → n < k → slice_get (take k l) n ≡ slice_get l n
+slice_get_take zero l n small = absurd (omega (arith, small))
 slice_get_take (suc k) (x ∷ l) (suc n) small = slice_get_take k l n (omega (arith, small))
-slice_get_take k l n small = grind arith
+slice_get_take k l n small = refl

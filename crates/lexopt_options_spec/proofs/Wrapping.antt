@@ -1,27 +1,39 @@
 -- Words, put on lines one after another.
-use Rattle.std.proofs.Common.{◌≡◌, ◌≤◌, ◌<◌, ℕ, ◌+◌, ◌-◌, true, false, cond, nat_lt, List, [], ◌∷◌, ◌++◌, length, take, refl, sym, ap, subst, ◌∙◌, arith, inl, inr, append-nil, append_assoc, length-append, ltb-false, Bool, Bor, map, get_or}
+use Rattle.std.proofs.Common.{◌≡◌, ◌≤◌, ◌<◌, ℕ, ◌+◌, ◌-◌, true, false, cond, nat_lt, List, [], ◌∷◌, ◌++◌, length, take, refl, sym, ap, subst, ◌∙◌, arith, inl, inr, append-nil, append_assoc, length-append, ltb-true, ltb-false, Bool, Bor, map, get_or}
 use Rattle.std.proofs.lemmas.List.{map-append, map_more, take_more, flat_map_more}
 use Rattle.std.proofs.lemmas.List.Elements.{filter-append}
 use Rattle.std.proofs.lemmas.List.Sums.{sum_by-append}
 use Rattle.std.proofs.lemmas.Grind.{flat_map-append}
-use Rattle.std.specs.List.{AllZip, filter, flat_map}
+use Rattle.std.specs.List.{AllZip, filter, flat_map, sum_by}
 use Rattle.lexopt_options_spec.specs.Help.{columns, blank, blanks, line_feed, Line, line_text, line_columns, Fits, AllFit, AreFull, Wraps, below}
 
 -- ---- the columns of a line
 
 line_columns-more : (line : Line) (word : List ℕ) → 0 < length line → line_columns (line ++ word ∷ []) ≡ line_columns line + 1 + columns word
-line_columns-more line word some = grind (arith, sum_by-append, length-append)
+line_columns-more line word some =
+    let s : sum_by columns (line ++ word ∷ []) ≡ sum_by columns line + sum_by columns (word ∷ []) = sum_by-append columns line (word ∷ []) in
+    let n : length (line ++ word ∷ []) ≡ length line + length (word ∷ []) = length-append line (word ∷ []) in
+    omega arith
+
+line_columns-one : (word : List ℕ) → line_columns (word ∷ []) ≡ columns word
+line_columns-one word = omega arith
 
 -- ---- the text of a line
 
 line_text-more : (line : Line) (word : List ℕ) → 0 < length line → line_text (line ++ word ∷ []) ≡ line_text line ++ blank ∷ word
+line_text-more [] word some = absurd (omega arith)
+line_text-more (x ∷ []) word some = refl
 line_text-more (x ∷ y ∷ more) word some = ap (λ l. x ++ blank ∷ l) (line_text-more (y ∷ more) word (omega arith)) ∙ sym (append_assoc x (blank ∷ line_text (y ∷ more)) (blank ∷ word))
-line_text-more line word some = grind arith
 
 further-last : (column : ℕ) (lines : List Line) (last : Line) (more : List ℕ) (grown : Line) → line_text grown ≡ line_text last ++ more
     → flat_map (λ (line : Line). (line_feed ∷ blanks column) ++ line_text line) (lines ++ grown ∷ []) ≡ flat_map (λ (line : Line). (line_feed ∷ blanks column) ++ line_text line) (lines ++ last ∷ []) ++ more
-further-last column [] last more grown same = grind (arith, append-nil, append_assoc)
-further-last column (x ∷ xs) last more grown same = grind (arith, further-last column xs last more grown same, append_assoc)
+further-last column [] last more grown same =
+    let start = line_feed ∷ blanks column in
+    append-nil (start ++ line_text grown) ∙ ap (λ l. start ++ l) same ∙ sym (append_assoc start (line_text last) more) ∙ ap (λ l. l ++ more) (sym (append-nil (start ++ line_text last)))
+further-last column (x ∷ xs) last more grown same =
+    let start = line_feed ∷ blanks column in
+    let others = flat_map (λ (line : Line). (line_feed ∷ blanks column) ++ line_text line) (xs ++ last ∷ []) in
+    ap (λ l. (start ++ line_text x) ++ l) (further-last column xs last more grown same) ∙ sym (append_assoc (start ++ line_text x) others more)
 
 -- the last line grows
 below-last : (column : ℕ) (front : List Line) (last : Line) (more : List ℕ) (grown : Line) → line_text grown ≡ line_text last ++ more
@@ -33,7 +45,12 @@ below-last column (x ∷ xs) last more grown same =
 
 -- one more line
 below-more : (column : ℕ) (front : List Line) (last : Line) → 0 < length front → below column (front ++ last ∷ []) ≡ below column front ++ ((line_feed ∷ blanks column) ++ line_text last)
-below-more column front last some = grind (arith, flat_map-append, append-nil, append_assoc)
+below-more column [] last some = absurd (omega arith)
+below-more column (x ∷ xs) last some =
+    let start = line_feed ∷ blanks column in
+    let others = flat_map (λ (line : Line). (line_feed ∷ blanks column) ++ line_text line) xs in
+    ap (λ l. line_text x ++ l) (flat_map-append (λ (line : Line). (line_feed ∷ blanks column) ++ line_text line) xs (last ∷ []) ∙ ap (λ l. others ++ l) (append-nil (start ++ line_text last)))
+    ∙ sym (append_assoc (line_text x) others (start ++ line_text last))
 
 -- ---- lines that fit and are full
 
@@ -51,12 +68,15 @@ AllFit-last limit (x ∷ xs) y f = AllFit-last limit xs y f.1
 
 -- a line that gets longer begins as before
 AreFull-grows : (limit : ℕ) (front : List Line) (last : Line) (word : List ℕ) → 0 < length last → AreFull limit (front ++ last ∷ []) → AreFull limit (front ++ (last ++ word ∷ []) ∷ [])
+AreFull-grows limit [] last word some full = tt
+AreFull-grows limit (x ∷ []) [] word some full = absurd (omega arith)
+AreFull-grows limit (x ∷ []) (w ∷ ws) word some full = full
 AreFull-grows limit (x ∷ y ∷ more) last word some full = (full.0, AreFull-grows limit (y ∷ more) last word some full.1)
-AreFull-grows limit front it word some full = grind arith
 
 AreFull-more : (limit : ℕ) (front : List Line) (last : Line) (word : List ℕ) → limit < line_columns (last ++ word ∷ []) → AreFull limit (front ++ last ∷ []) → AreFull limit ((front ++ last ∷ []) ++ (word ∷ []) ∷ [])
+AreFull-more limit [] last word none full = (none, tt)
+AreFull-more limit (x ∷ []) last word none full = (full.0, (none, tt))
 AreFull-more limit (x ∷ y ∷ more) last word none full = (full.0, AreFull-more limit (y ∷ more) last word none full.1)
-AreFull-more limit front last word none full = grind arith
 
 in_order-more : (front : List Line) (last : Line) → flat_map (λ (line : Line). line) (front ++ last ∷ []) ≡ flat_map (λ (line : Line). line) front ++ last
 in_order-more front last = flat_map-append (λ (line : Line). line) front (last ∷ []) ∙ ap (λ l. flat_map (λ (line : Line). line) front ++ l) (append-nil last)
@@ -76,7 +96,7 @@ first_written limit column before word = record {
   front = [];
   last = word ∷ [];
   wrapped = record { in_order = refl; fit = (record { words = omega arith; narrow = inr refl }, tt); full = tt };
-  room_is = ap (λ n. limit - n) (sym (omega arith));
+  room_is = ap (λ n. limit - n) (sym (line_columns-one word));
   text_is = ap (λ l. before ++ l) (sym (append-nil word));
 }
 
@@ -118,7 +138,7 @@ breaks_more limit column before words room text word w none =
         fit = AllFit-append limit (w.front ++ w.last ∷ []) ((word ∷ []) ∷ []) w.wrapped.fit (record { words = omega arith; narrow = inr refl }, tt);
         full = AreFull-more limit w.front w.last word over w.wrapped.full;
       };
-      room_is = ap (λ n. limit - n) (sym (omega arith));
+      room_is = ap (λ n. limit - n) (sym (line_columns-one word));
       text_is = ap (λ l. l ++ (line_feed ∷ blanks column ++ word)) w.text_is ∙ append_assoc before (below column (w.front ++ w.last ∷ [])) (line_feed ∷ blanks column ++ word)
           ∙ ap (λ l. before ++ l) (sym (below-more column (w.front ++ w.last ∷ []) (word ∷ []) (omega (arith, length-append w.front (w.last ∷ [])))));
     }
@@ -127,16 +147,24 @@ breaks_more limit column before words room text word w none =
 pub word_written : (limit column : ℕ) (before : List ℕ) (words : List (List ℕ)) (room : ℕ) (text word : List ℕ) → Written limit column before words room text
     → Written limit column before (words ++ word ∷ []) (cond (nat_lt (columns word) room) (room - (columns word + 1)) (limit - columns word))
     (text ++ cond (nat_lt (columns word) room) (blank ∷ word) (line_feed ∷ blanks column ++ word))
-word_written limit column before words room text word w = grind (arith, fits_more, breaks_more, ltb-false)
+word_written limit column before words room text word w =
+    elim (nat_lt (columns word) room) as (λ b. nat_lt (columns word) room ≡ b
+    → Written limit column before (words ++ word ∷ []) (cond b (room - (columns word + 1)) (limit - columns word)) (text ++ cond b (blank ∷ word) (line_feed ∷ blanks column ++ word))) [
+      | true ↦ λ is. fits_more limit column before words room text word w (ltb-true _ _ is)
+      | false ↦ λ is. breaks_more limit column before words room text word w (ltb-false _ _ is)
+    ] refl
 
 written_as : (limit column : ℕ) (before : List ℕ) (words ws : List (List ℕ)) (room left : ℕ) (text t : List ℕ) → Written limit column before words room text → ws ≡ words → left ≡ room → t ≡ text
     → Written limit column before ws left t
-written_as limit column before words ws room left text t w e f g = grind arith
+written_as limit column before words ws room left text t w e f g =
+    subst (λ (l : List (List ℕ)). Written limit column before l left t) (sym e)
+    (record { front = w.front; last = w.last; wrapped = w.wrapped; room_is = f ∙ w.room_is; text_is = g ∙ w.text_is })
 
 -- the first word is written
 pub written_start : (limit column : ℕ) (before first : List ℕ) (needed room : ℕ) (text : List ℕ) → needed ≡ columns first → room ≡ limit - needed → text ≡ before ++ first
     → Written limit column before (first ∷ []) room text
-written_start limit column before first needed room text e f g = grind (arith, first_written)
+written_start limit column before first needed room text e f g =
+    written_as limit column before (first ∷ []) (first ∷ []) (limit - columns first) room (before ++ first) text (first_written limit column before first) refl (f ∙ ap (λ n. limit - n) e) g
 
 -- one more word is written
 pub written_next : (limit column : ℕ) (before first : List ℕ) (others : List (Bor (List ℕ))) (i : ℕ) (d : Bor (List ℕ)) (room left : ℕ) (text t : List ℕ) → i < length others
@@ -153,8 +181,11 @@ written_next limit column before first others i d room left text t within w g f 
 -- ---- words can be put on lines
 
 all_written : (limit column : ℕ) (before : List ℕ) (words more : List (List ℕ)) (room : ℕ) (text : List ℕ) → Written limit column before words room text → (lines : List Line) × Wraps limit (words ++ more) lines
-all_written limit column before words [] room text w = grind (arith, append-nil)
-all_written limit column before words (m ∷ more) room text w = grind (arith, all_written limit column before (words ++ m ∷ []) more _ _ (word_written limit column before words room text m w), word_written, append_assoc)
+all_written limit column before words [] room text w =
+    (w.front ++ w.last ∷ [], subst (λ (l : List (List ℕ)). Wraps limit l (w.front ++ w.last ∷ [])) (sym (append-nil words)) w.wrapped)
+all_written limit column before words (m ∷ more) room text w =
+    let others = all_written limit column before (words ++ m ∷ []) more _ _ (word_written limit column before words room text m w) in
+    (others.0, subst (λ (l : List (List ℕ)). Wraps limit l others.0) (append_assoc words (m ∷ []) more) others.1)
 
 pub some_wrapping : (limit : ℕ) (words : List (List ℕ)) → (lines : List Line) × Wraps limit words lines
 some_wrapping limit [] = ([], record { in_order = refl; fit = tt; full = tt })
@@ -169,8 +200,9 @@ pub record Listed {X : Type 0} (Is : X → List ℕ → Type 0) (put : List ℕ 
   pub text_is : text ≡ before ++ flat_map put texts
 
 AllZip-more : {X : Type 0} (Is : X → List ℕ → Type 0) (xs : List X) (ts : List (List ℕ)) (x : X) (t : List ℕ) → AllZip Is xs ts → Is x t → AllZip Is (xs ++ x ∷ []) (ts ++ t ∷ [])
+AllZip-more Is [] [] x t all is = (is, tt)
 AllZip-more Is (z ∷ zs) (y ∷ ys) x t all is = (all.0, AllZip-more Is zs ys x t all.1 is)
-AllZip-more Is xs ts x t all is = grind arith
+AllZip-more Is xs ts x t all is = absurd all
 
 pub one_listed : {X : Type 0} (Is : X → List ℕ → Type 0) (put : List ℕ → List ℕ) (before : List ℕ) (xs : List X) (text : List ℕ) (x : X) (t : List ℕ) → Listed Is put before xs text → Is x t
     → Listed Is put before (xs ++ x ∷ []) (text ++ put t)

@@ -89,14 +89,16 @@ pub data Count : Type 0 where
 -- it has to occur
 abbrev pub has_to_occur : Count → Bool
 has_to_occur once = true
+has_to_occur at_most_once = false
+has_to_occur any_number = false
 has_to_occur at_least_once = true
-has_to_occur count = false
 
 -- it may occur more than once
 abbrev pub may_repeat : Count → Bool
+may_repeat once = false
+may_repeat at_most_once = false
 may_repeat any_number = true
 may_repeat at_least_once = true
-may_repeat count = false
 
 pub record Positional : Type 0 where
   pub placeholder : List ℕ

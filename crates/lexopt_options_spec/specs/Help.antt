@@ -218,13 +218,6 @@ pub record Wraps (limit : ℕ) (words : List (List ℕ)) (lines : List Line) : T
   pub fit : AllFit limit lines
   pub full : AreFull limit lines
 
--- the words are on lines of at most this many columns, and the text is written from these lines
-pub record IsLaidOut (limit : ℕ) (words : List (List ℕ)) (write : List Line → List ℕ)
-    (text : List ℕ) : Type 0 where
-  pub lines : List Line
-  pub wrapped : Wraps limit words lines
-  pub written : text ≡ write lines
-
 -- the text of lines, where each but the first has this many blanks before it
 abbrev pub below : ℕ → List Line → List ℕ
 below column lines = join_by line_text (line_feed ∷ blanks column) lines
@@ -249,9 +242,10 @@ abbrev pub entry : ℕ → List ℕ → List Line → List ℕ
 entry column text lines = codes "  " ++ text ++ beside column text lines ++ line_feed ∷ []
 
 -- the text is the entry with this label and this help text
-abbrev pub IsEntry : ℕ → List ℕ → List ℕ → List ℕ → Type 0
-IsEntry width label help text =
-    IsLaidOut (width - help_column width) (words_of help) (entry (help_column width) label) text
+pub record IsEntry (width : ℕ) (label help text : List ℕ) : Type 0 where
+  pub lines : List Line
+  pub wrapped : Wraps (width - help_column width) (words_of help) lines
+  pub written : text ≡ entry (help_column width) label lines
 
 -- ---- the usage
 
@@ -344,9 +338,10 @@ abbrev pub usage_column : ℕ
 usage_column = 7
 
 -- the text is the usage line of these words, on as many lines as it needs, without how it begins
-abbrev pub IsUsageLine : ℕ → List (List ℕ) → List ℕ → Type 0
-IsUsageLine width words text =
-    IsLaidOut (width - usage_column) words (λ lines. below usage_column lines ++ line_feed ∷ []) text
+pub record IsUsageLine (width : ℕ) (words : List (List ℕ)) (text : List ℕ) : Type 0 where
+  pub lines : List Line
+  pub wrapped : Wraps (width - usage_column) words lines
+  pub written : text ≡ below usage_column lines ++ line_feed ∷ []
 
 -- the text is the usage: the first usage line, and one for each other text that the program gives
 pub record IsUsage (width : ℕ) (d : Declaration) (text : List ℕ) : Type 0 where
@@ -365,8 +360,10 @@ paragraph [] = []
 paragraph (line ∷ lines) = below 0 (line ∷ lines) ++ line_feed ∷ []
 
 -- the text has the words of this content, on lines
-abbrev pub IsParagraph : ℕ → List ℕ → List ℕ → Type 0
-IsParagraph width content text = IsLaidOut width (words_of content) paragraph text
+pub record IsParagraph (width : ℕ) (content text : List ℕ) : Type 0 where
+  pub lines : List Line
+  pub wrapped : Wraps width (words_of content) lines
+  pub written : text ≡ paragraph lines
 
 -- ---- the values in a list
 

@@ -31,8 +31,9 @@ CanTake at_least_once n = 1 ≤ n
 -- the least number of words that belong to it
 abbrev pub needs : Count → ℕ
 needs once = 1
+needs at_most_once = 0
+needs any_number = 0
 needs at_least_once = 1
-needs count = 0
 
 -- one more word can belong to it than this many
 abbrev pub has_room : Count → ℕ → Bool

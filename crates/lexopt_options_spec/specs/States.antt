@@ -74,14 +74,18 @@ pub record LeadsNowhere (d : Declaration) (words : List (List ℕ)) : Type 0 whe
 -- an option can come
 abbrev pub opens : State → Bool
 opens anything = true
+opens (due i) = false
+opens (first i) = false
 opens (further i) = true
-opens state = false
+opens ended = false
 
 -- a plain word is a positional
 abbrev pub takes_positional : State → Bool
 takes_positional anything = true
+takes_positional (due i) = false
+takes_positional (first i) = false
+takes_positional (further i) = false
 takes_positional ended = true
-takes_positional state = false
 
 -- this many positionals are as many as the limit allows, if there is a limit
 abbrev pub is_full : Option ℕ → ℕ → Bool

@@ -1,9 +1,9 @@
-use Rattle.std.proofs.Common.{◌≡◌, ◌<◌, ◌==◌, not, Bool, true, false, ℕ, List, Bor, length, map, sym, ap, subst, ◌∙◌, arith}
+use Rattle.std.proofs.Common.{◌≡◌, ◌<◌, ◌-◌, ◌==◌, not, Bool, true, false, ℕ, List, Bor, length, map, refl, sym, ap, subst, ◌∙◌, arith}
 use Rattle.std.proofs.lemmas.List.{length-map, take_all}
 use Rattle.std.proofs.lemmas.List.Concat.{concat_is}
 use Rattle.std.specs.List.{AllZip}
 use Rattle.lexopt_options_spec.specs.Declaration.{Positional}
-use Rattle.lexopt_options_spec.specs.Help.{IsEntry, described, positional_text, told, words_of}
+use Rattle.lexopt_options_spec.specs.Help.{IsEntry, Wraps, described, entry, help_column, positional_text, told, words_of}
 use Rattle.lexopt_declaration.specs.Models.{positional_view, words_view}
 use Rattle.lexopt_options_spec.proofs.Wrapping.{listed_kept, listed_left_out}
 use Rattle.lexopt_declaration.proofs.help.positional_entries.Goals as goal
@@ -21,14 +21,16 @@ loop-positional-preserved-then-is_empty g c =
 
 pub loop-positional-preserved : goal.loop-positional-preserved
 loop-positional-preserved g c =
-    let e = c.in_ok-push_described.ensures in
+    let e = c.in_ok-push_labelled.ensures in
     let same = c.as_str.ensures.value ∙ c.in_ok-told.ensures in
     let words = ap (map (λ (w : Bor (List ℕ)). w.now)) c.as_slice-words.ensures.value ∙ c.in_ok-words.ensures ∙ ap words_of same in
     let within : c.loop-positional.positional-index < length c.args.positionals.now = omega arith in
-    listed_kept positional_view _ _ _ c.args.positionals.now c.loop-positional.positional-index _ _ within (λ p. not (length (words_of (positional_text p)) == 0)) _ e.0
+    listed_kept positional_view _ _ _ c.args.positionals.now c.loop-positional.positional-index _ _ within (λ p. not (length (words_of (positional_text p)) == 0)) _ (entry (help_column c.args.width) c.positional-item.result.placeholder.now e.0)
     (subst (λ p. not (length (words_of (told p.hides_list p.help.now (words_view p.words))) == 0) ≡ true) c.positional-item.is (has_word _ _ _ false words c.is_empty.ensures c.if-is_empty.false))
     c.loop-positional.invariant
-    (subst (λ p. IsEntry c.args.width p.placeholder.now (told p.hides_list p.help.now (words_view p.words)) e.0) c.positional-item.is (rw (c.as_str-in-loop-positional.ensures.value, c.in_ok-told.ensures) at e.1)) e.2
+    (subst (λ p. IsEntry c.args.width p.placeholder.now (told p.hides_list p.help.now (words_view p.words)) (entry (help_column c.args.width) c.positional-item.result.placeholder.now e.0)) c.positional-item.is
+    (record { lines = e.0; wrapped = subst (λ (ws : List (List ℕ)). Wraps (c.args.width - help_column c.args.width) ws e.0) words e.1; written = refl }))
+    e.2
 
 pub returns : goal.returns
 returns g c =

@@ -1,8 +1,6 @@
-use Rattle.lexopt_declaration.proofs.Common.{◌++◌, List, ℕ, Bor, codes, map, option_map, take, flat_map, HasWritten, IsPlainFormatter}
-use Rattle.lexopt_declaration.specs.Texts.{in_list}
+use Rattle.lexopt_declaration.proofs.Common.{◌++◌, List, ℕ, Bor, codes, map, take, flat_map, HasWritten, IsPlainFormatter, escaped_text}
 use Rattle.lexopt_declaration.proofs.listed.write_others.Given as goal
 
 abbrev pub invariant-loop-other : goal.invariant-loop-other
 invariant-loop-other g l = IsPlainFormatter l.fn.f
-    → HasWritten g.W.Write.write_str_gives l.fn.f
-    (flat_map (λ other. codes ", " ++ other) (map (λ (o : Bor (List ℕ)). in_list (option_map (λ text. text.now) l.dashes) o.now) (take l.other-index l.others))) l.f
+    → HasWritten g.W.Write.write_str_gives l.fn.f (flat_map (λ other. codes ", " ++ other) (map (λ (o : Bor (List ℕ)). escaped_text o.now) (take l.other-index l.others))) l.f

@@ -3,4 +3,4 @@ use Rattle.lexopt_declaration.proofs.Positions.{position_map}
 use Rattle.lexopt_declaration.proofs.lookup.index_of_long.Goals as goal
 
 pub returns : goal.returns
-returns g c = c.place_of.ensures ∙ position_map _ c.args.options.now
+returns g c = c.place_of_long.ensures ∙ position_map _ c.args.options.now

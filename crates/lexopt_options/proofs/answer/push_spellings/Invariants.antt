@@ -1,4 +1,5 @@
-use Rattle.lexopt_options.proofs.Common.{◌≡◌, ◌++◌, string_bytes, take, flat_map, spelling_view, spelling_line}
+use Rattle.lexopt_options.proofs.Common.{◌≡◌, ◌++◌, string_bytes, take, flat_map, spelling_view}
+use Rattle.lexopt_options.specs.Answers.{spelling_line}
 use Rattle.lexopt_options.proofs.answer.push_spellings.Given as goal
 
 abbrev pub invariant-loop-spelling : goal.invariant-loop-spelling

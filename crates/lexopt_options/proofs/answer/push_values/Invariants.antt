@@ -1,4 +1,5 @@
-use Rattle.lexopt_options.proofs.Common.{◌≡◌, ◌++◌, string_bytes, take, flat_map, listed_line}
+use Rattle.lexopt_options.proofs.Common.{◌≡◌, ◌++◌, string_bytes, take, flat_map}
+use Rattle.lexopt_options.specs.Answers.{listed_line}
 use Rattle.lexopt_options.proofs.answer.push_values.Given as goal
 
 abbrev pub invariant-loop-value : goal.invariant-loop-value

@@ -1,4 +1,5 @@
-use Rattle.lexopt_options.proofs.Common.{◌≡◌, ◌++◌, map, string_bytes, take, flat_map, positional_view, words_so}
+use Rattle.lexopt_options.proofs.Common.{◌≡◌, ◌++◌, map, string_bytes, take, flat_map, positional_view}
+use Rattle.lexopt_options.specs.Completions.{words_so}
 use Rattle.lexopt_options.proofs.complete.add_words.Given as goal
 
 abbrev pub invariant-loop-index : goal.invariant-loop-index

@@ -1,7 +1,8 @@
-use Rattle.lexopt_options.proofs.Common.{◌∙◌, None, Some, arith, ap, length, refl, sym, false≢true, state_at_end, declaration_of, options_of, positional_falls, noted}
-use Rattle.lexopt_options.proofs.RestRead.{end_begun, lacking_begun, missing_begun, rest_begun, separated_begun, undeclared_begun, unexpected_begun}
-use Rattle.lexopt_options.proofs.Seen.{noted_is}
-use Rattle.lexopt_options.proofs.Accepted.{found_within}
+use Rattle.lexopt_options.proofs.Common.{◌∙◌, None, Some, arith, ap, length, refl, sym, false≢true, state_at_end, declaration_of, options_of, positional_falls}
+use Rattle.lexopt_options.proofs.Beginnings.{end_begun, lacking_begun, missing_begun, rest_begun, separated_begun, undeclared_begun, unexpected_begun}
+use Rattle.lexopt_options.specs.Reading.{noted}
+use Rattle.lexopt_options.proofs.Defaults.{noted_is}
+use Rattle.lexopt_options.proofs.Keys.{found_within}
 use Rattle.lexopt_options.proofs.Fronts.{has_nothing, has_option, has_positional, option_there}
 use Rattle.lexopt_options.proofs.ReadKeys.{not_separated}
 use Rattle.lexopt_options.proofs.front.read_front.Goals as goal
@@ -39,8 +40,10 @@ loop-last-preserved-in-Values g c =
     let given = rw c.in-Values.is at c.in_ok-accepted-in-Option.ensures (declaration_of o) at in
     let has = has_option (declaration_of o) c.args.parser.now c.loop-last.parser c.read_next.new.parser c.read_after_name.new.parser c.loop-last.words.items c.loop-last.all_accepted c.in-Values.accepted c.loop-last.last c.loop-last.going_on
     c.in-Values.first c.in-Values.goes_on next.0 c.in-Option.index c.loop-last.seen.items c.note.new.seen.items o.sound c.loop-last.invariant.0
-    (c.in_ok-note-in-Values.ensures ∙ ap (λ b. noted b c.in-Option.index c.loop-last.seen.items) (c.is_noted.ensures ∙ sym (noted_is (declaration_of o).options c.in-Option.index _ at))) next.1 next.2 given in
-    (has.0, λ is. has.2)
+    (c.in_ok-note-in-Values.ensures ∙ ap (λ b. noted b c.in-Option.index c.loop-last.seen.items) (c.is_noted.ensures ∙ sym (noted_is (declaration_of o).options c.in-Option.index _ at))) next.1 next.2 given in (
+      rw (c.are_both-all_accepted.ensures, c.with_index-last.ensures, c.index_if-going_on.ensures) has.0,
+      λ is. has.2,
+    )
 
 pub returns-in-Lacks : goal.returns-in-Lacks
 returns-in-Lacks g c = λ words is.

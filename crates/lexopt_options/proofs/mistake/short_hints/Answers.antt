@@ -1,4 +1,7 @@
-use Rattle.lexopt_options.proofs.Common.{ap, map, ◌++◌, ◌∙◌, IfOk-weaker, option_view, ending, long_names}
+use Rattle.std.proofs.Common.{ap, map, ◌++◌, ◌∙◌}
+use Rattle.std.proofs.lemmas.Result.{IfOk-weaker}
+use Rattle.lexopt_options_spec.specs.Nearest.{ending, long_names}
+use Rattle.lexopt_declaration.specs.Models.{option_view}
 use Rattle.lexopt_options.proofs.mistake.short_hints.Goals as goal
 
 pub returns : goal.returns

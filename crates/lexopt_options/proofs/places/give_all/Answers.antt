@@ -1,5 +1,6 @@
 use Rattle.lexopt_options.proofs.Common.{arith, ap, get_or, map, refl, sym, ◌-◌, ◌∙◌, get_or_default, positional_view, least}
-use Rattle.lexopt_options.proofs.Given.{after, all_given, counted, done_more, done_none, have_keys, parsed_still, word_below, word_count, first_keys}
+use Rattle.lexopt_options.proofs.Given.{after, all_given, counted, done_more, done_none, have_keys, parsed_still, word_below, word_count}
+use Rattle.lexopt_options.proofs.Owners.{first_keys}
 use Rattle.lexopt_options.proofs.places.give_all.Goals.{then-give_key, else-give_key}
 use Rattle.lexopt_options.proofs.places.give_all.Goals as goal
 

@@ -1,4 +1,5 @@
-use Rattle.lexopt_options.proofs.Common.{◌≡◌, ◌++◌, List, ap, arith, drop, length, take, ℕ, take-append_seam}
+use Rattle.std.proofs.Common.{◌≡◌, ◌++◌, List, ap, arith, drop, length, take, ℕ}
+use Rattle.std.proofs.Math.Seq.{take-append_seam}
 use Rattle.lexopt_options.proofs.places.give_keys.Goals as goal
 
 written : {X : Type 0} (before after : List X) (count : ℕ) → length after ≡ count → take count (after ++ drop (length after) before) ≡ after

@@ -1,21 +1,33 @@
-use Rattle.lexopt_options.proofs.Common.{arith}
-use Rattle.lexopt_options.proofs.Given.{found_here, found_later, nothing_left}
+use Rattle.lexopt_options.proofs.Common.{arith, map, sym, length-map, positional_view}
+use Rattle.lexopt_options.proofs.Owners.{found_here, found_later, nothing_left, viewed}
 use Rattle.lexopt_options.proofs.places.place_of.Goals as goal
 
 pub returns-then-left-needed : goal.returns-then-left-needed
 returns-then-left-needed g c =
-    found_here c.args.positionals.now c.args.spare c.args.word c.loop-index.index c.loop-index.left c.loop-index.spare c.index-positionals-index.result c.loop-index.invariant c.loop-index-test.true c.index-positionals-index.is
-    (omega (arith, c.if-left-needed.true, c.needs-needed.ensures))
+    let rust = c.args.positionals.now in
+    let k = c.loop-index.index in
+    let item = c.index-positionals-index.result in
+    sym (found_here (map positional_view rust) c.args.spare c.args.word k c.loop-index.left c.loop-index.spare (positional_view item) c.loop-index.invariant (omega (arith, c.loop-index-test.true, length-map rust positional_view))
+    (viewed rust k item c.loop-index-test.true c.index-positionals-index.is) (omega (arith, c.if-left-needed.true, c.needs-needed.ensures)))
 
 pub returns-then-left-more : goal.returns-then-left-more
 returns-then-left-more g c =
-    found_here c.args.positionals.now c.args.spare c.args.word c.loop-index.index c.loop-index.left c.loop-index.spare c.index-positionals-index.result c.loop-index.invariant c.loop-index-test.true c.index-positionals-index.is
-    (omega (arith, c.if-left-needed.false, c.if-left-more.true, c.needs-needed.ensures, c.extra-more.ensures))
+    let rust = c.args.positionals.now in
+    let k = c.loop-index.index in
+    let item = c.index-positionals-index.result in
+    sym (found_here (map positional_view rust) c.args.spare c.args.word k c.loop-index.left c.loop-index.spare (positional_view item) c.loop-index.invariant (omega (arith, c.loop-index-test.true, length-map rust positional_view))
+    (viewed rust k item c.loop-index-test.true c.index-positionals-index.is) (omega (arith, c.if-left-needed.false, c.if-left-more.true, c.needs-needed.ensures, c.extra-more.ensures)))
 
 pub loop-index-preserved : goal.loop-index-preserved
 loop-index-preserved g c =
-    found_later c.args.positionals.now c.args.spare c.args.word c.loop-index.index c.loop-index.left c.loop-index.spare _ _ c.index-positionals-index.result c.loop-index.invariant c.loop-index-test.true c.index-positionals-index.is
-    (omega (arith, c.if-left-needed.false, c.if-left-more.false, c.needs-needed.ensures, c.extra-more.ensures)) (omega (arith, c.needs-needed.ensures, c.extra-more.ensures)) (omega (arith, c.extra-more.ensures))
+    let rust = c.args.positionals.now in
+    let k = c.loop-index.index in
+    let item = c.index-positionals-index.result in
+    found_later (map positional_view rust) c.args.spare c.args.word k c.loop-index.left c.loop-index.spare _ _ (positional_view item) c.loop-index.invariant (omega (arith, c.loop-index-test.true, length-map rust positional_view))
+    (viewed rust k item c.loop-index-test.true c.index-positionals-index.is) (omega (arith, c.if-left-needed.false, c.if-left-more.false, c.needs-needed.ensures, c.extra-more.ensures))
+    (omega (arith, c.needs-needed.ensures, c.extra-more.ensures)) (omega (arith, c.extra-more.ensures))
 
 pub returns : goal.returns
-returns g c = nothing_left c.args.positionals.now c.args.spare c.args.word c.loop-index.left c.loop-index.spare c.loop-index.index c.loop-index-test.false c.loop-index.invariant
+returns g c =
+    let rust = c.args.positionals.now in
+    sym (nothing_left (map positional_view rust) c.args.spare c.args.word c.loop-index.left c.loop-index.spare c.loop-index.index (omega (arith, c.loop-index-test.false, length-map rust positional_view)) c.loop-index.invariant)

@@ -1,5 +1,5 @@
 use Rattle.lexopt_options.proofs.Common.{map, positional_view}
-use Rattle.lexopt_options.proofs.Given.{IsLeft}
+use Rattle.lexopt_options.proofs.Owners.{IsLeft}
 use Rattle.lexopt_options.proofs.places.place_of.Given as goal
 
 abbrev pub invariant-loop-index : goal.invariant-loop-index

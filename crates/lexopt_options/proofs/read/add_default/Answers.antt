@@ -1,5 +1,5 @@
 use Rattle.std.proofs.Common.{sym, ◌∙◌}
-use Rattle.lexopt_options.proofs.Seen.{added_none, added_seen, added_value, one_value}
+use Rattle.lexopt_options.proofs.Defaults.{added_none, added_seen, added_value, one_value}
 use Rattle.lexopt_options.proofs.read.add_default.Goals as goal
 
 pub returns-in_default : goal.returns-in_default

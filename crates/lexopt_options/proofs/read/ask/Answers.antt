@@ -1,9 +1,16 @@
-use Rattle.lexopt_options.proofs.Common.{◌≡◌, ◌++◌, ◌∷◌, [], List, None, refl, string_bytes, subst, sym, start, first_asked, accepted_append, declaration_of, options_of, AreParsedAs}
+use Rattle.std.proofs.Common.{◌≡◌, ◌++◌, ◌∷◌, [], List, None, refl, string_bytes, subst, sym}
+use Rattle.lexopt_spec.specs.Steps.{Next}
+use Rattle.lexopt_line_spec.specs.Readings.{start}
+use Rattle.lexopt_options_spec.specs.Asking.{first_asked}
+use Rattle.lexopt_options_spec.specs.Legal as legal
+use Rattle.lexopt_options_spec.specs.Stops as stops
+use Rattle.lexopt_options_spec.proofs.Listed.{accepted_append}
+use Rattle.lexopt_base.specs.Refusals.{refusal_reply}
+use Rattle.lexopt_options.specs.Declarations.{declaration_of, options_of}
+use Rattle.lexopt_options.specs.Keys.{AreParsedAs}
 use Rattle.lexopt_options.proofs.ReadKeys.{asks_alone, one_unrefused}
 use Rattle.lexopt_options.proofs.ReadNext.{never_missing, one_more}
 use Rattle.lexopt_options.proofs.WholeLines.{last_dropped}
-use Rattle.lexopt_options_spec.specs.Legal as legal
-use Rattle.lexopt_options_spec.specs.Stops as stops
 use Rattle.lexopt_options.proofs.read.ask.Goals as goal
 
 pub returns-in-Ok : goal.returns-in-Ok
@@ -23,7 +30,7 @@ returns-in-Ok g c = λ words begins u count seen parsed s had reads counts_is un
 pub returns-in-UnexpectedValue : goal.returns-in-UnexpectedValue
 returns-in-UnexpectedValue g c = λ words begins u count seen parsed s had reads counts_is unrefused asks.
     let d = declaration_of c.args.options.now in
-    let step = rw c.in-UnexpectedValue.is at c.in-Err.ensures in (
+    let step = subst (λ r. Next c.args.parser.now (refusal_reply r) c.advance.new.self) c.in-UnexpectedValue.is c.in-Err.ensures in (
       record {
         why = stops.unexpected_value (string_bytes c.in-UnexpectedValue.option) c.in-UnexpectedValue.value;
         told = refl;
@@ -43,4 +50,4 @@ returns-in-UnexpectedValue g c = λ words begins u count seen parsed s had reads
 
 pub unreachable-requires : goal.unreachable-requires
 unreachable-requires g c =
-    never_missing c.args.parser.now c.advance.new.self c.in-MissingValue.field-0 (rw c.in-MissingValue.is at c.in-Err.ensures)
+    never_missing c.args.parser.now c.advance.new.self c.in-MissingValue.field-0 (subst (λ r. Next c.args.parser.now (refusal_reply r) c.advance.new.self) c.in-MissingValue.is c.in-Err.ensures)

@@ -1,4 +1,11 @@
-use Rattle.lexopt_options.proofs.Common.{ap, length, subst, sym, ◌∙◌, ◌<◌, ◌≤◌, false≢true, declaration_of, options_of, positionals_of, parsed_words, has, IsWithin, most, least, required_placeholder}
+use Rattle.std.proofs.Common.{ap, length, subst, sym, ◌∙◌, ◌<◌, ◌≤◌}
+use Rattle.std.proofs.lemmas.Bool.{false≢true}
+use Rattle.lexopt_options.specs.Declarations.{declaration_of, options_of, positionals_of}
+use Rattle.lexopt_options.specs.Keys.{parsed_words}
+use Rattle.lexopt_options_spec.specs.Declaration.{has}
+use Rattle.lexopt_options_spec.specs.Legal.{IsWithin, most}
+use Rattle.lexopt_options_spec.specs.Places.{least}
+use Rattle.lexopt_options_spec.specs.Stops.{required_placeholder}
 use Rattle.lexopt_options.proofs.Seen.{none_apart, none_required}
 use Rattle.lexopt_options.proofs.TakenWords.{all_taken}
 use Rattle.lexopt_options.proofs.WholeLines.{excludes_option, lacks_argument, lacks_option, refuses_word}

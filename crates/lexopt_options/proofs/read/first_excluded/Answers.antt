@@ -1,8 +1,9 @@
-use Rattle.lexopt_options.proofs.Common.{Bool, ap, arith, below_more, not, refl, sym, ◌∙◌, ℕ, and_from, eq-eqb, ne_eqb, has, and-false}
+use Rattle.std.proofs.Common.{Bool, ap, arith, below_more, not, option_map, sym, ◌∙◌, ℕ}
+use Rattle.std.proofs.lemmas.Bool.{and_from, eq-eqb, ne_eqb}
+use Rattle.lexopt_options_spec.specs.Declaration.{has}
 use Rattle.lexopt_options.proofs.Accepted.{at_place}
-use Rattle.lexopt_options.proofs.Seen.{are_names, clash_at, none_past}
-use Rattle.lexopt_options.proofs.read.first_excluded.Goals.{else-other-index-via-then-other-index+then-are_same+else-is_among, else-other-index-via-then-other-index+else-are_same}
-use Rattle.lexopt_options.proofs.read.first_excluded.Goals.{else-other-index-via-else-other-index}
+use Rattle.lexopt_options.proofs.Seen.{clash_at, itself_apart, none_past, text_apart, unseen_apart}
+use Rattle.lexopt_options.proofs.read.first_excluded.Goals.{else-other-index-via-then-other-index+then-are_same+else-is_among, else-other-index-via-then-other-index+else-are_same, else-other-index-via-else-other-index}
 use Rattle.lexopt_options.proofs.read.first_excluded.Goals as goal
 
 pub returns-then-is_among : goal.returns-then-is_among
@@ -15,7 +16,7 @@ returns-then-is_among g c =
           ∙ and_from _ _ (and_from _ _ (ap not (ne_eqb other c.args.index c.if-other-index.true)) (sym c.are_same.ensures ∙ c.if-are_same.true))
           (and_from _ _ c.requires.seen (sym c.is_among.ensures ∙ c.if-is_among.true)),
       c.loop-other.invariant,
-      are_names options other c.index-options-other.result at,
+      ap (option_map (λ o. o.names)) at,
     )
 
 pub loop-other-preserved : goal.loop-other-preserved
@@ -26,9 +27,9 @@ loop-other-preserved g c =
     let at = at_place options other c.index-options-other.result c.loop-other-test.true c.index-options-other.is in
     let is = clash_at options there c.args.index other c.args.option.now c.index-options-other.result c.requires.here at in
     below_more _ _ c.loop-other.invariant (elim c.else-other-index.branch [
-      | else-other-index-via-then-other-index+then-are_same+else-is_among w ↦ is ∙ rw (sym w.is_among.ensures ∙ w.if-is_among.false, and-false, and-false) refl
-      | else-other-index-via-then-other-index+else-are_same w ↦ is ∙ rw (sym w.are_same.ensures ∙ w.if-are_same.false, and-false) refl
-      | else-other-index-via-else-other-index w ↦ is ∙ rw (eq-eqb other c.args.index w.if-other-index.false) refl
+      | else-other-index-via-then-other-index+then-are_same+else-is_among w ↦ is ∙ unseen_apart _ _ _ (sym w.is_among.ensures ∙ w.if-is_among.false)
+      | else-other-index-via-then-other-index+else-are_same w ↦ is ∙ text_apart _ _ _ (sym w.are_same.ensures ∙ w.if-are_same.false)
+      | else-other-index-via-else-other-index w ↦ is ∙ itself_apart _ _ _ (ap not (eq-eqb other c.args.index w.if-other-index.false))
     ])
 
 pub returns : goal.returns

@@ -1,14 +1,22 @@
-use Rattle.lexopt_options.proofs.Common.{◌-◌, ◌≡◌, ◌≤◌, ◌∙◌, Ok, ap, arith, length, refl, string_bytes, subst, sym, false≢true, IfOk-weaker, length-map, positional_view, all_but_last, declaration_of}
-use Rattle.lexopt_options.proofs.Common.{options_of, positionals_of, AllFirst, AreParsedAs, HasKey, positional_keys, HasRead, noted}
-use Rattle.lexopt_options.proofs.Accepted.{view_there, found_within, none_before}
-use Rattle.lexopt_options.proofs.Seen.{noted_is}
+use Rattle.std.proofs.Common.{◌-◌, ◌≡◌, ◌≤◌, ◌∙◌, Ok, ap, arith, length, refl, string_bytes, subst, sym}
+use Rattle.std.proofs.lemmas.Bool.{false≢true}
+use Rattle.std.proofs.lemmas.Result.{IfOk-weaker}
+use Rattle.std.proofs.lemmas.List.{length-map}
+use Rattle.lexopt_declaration.specs.Models.{positional_view}
+use Rattle.lexopt_options_spec.specs.Asking.{all_but_last}
+use Rattle.lexopt_options_spec.specs.Stops as stops
+use Rattle.lexopt_options.specs.declared.parsed.ByKey.TheVariants as told
+use Rattle.lexopt_options.specs.Declarations.{declaration_of, options_of, positionals_of}
+use Rattle.lexopt_options.specs.Keys.{AllFirst, AreParsedAs, HasKey, positional_keys}
+use Rattle.lexopt_options.specs.Reading.{HasRead, noted}
+use Rattle.lexopt_options.proofs.Accepted.{view_there}
+use Rattle.lexopt_options.proofs.Defaults.{noted_is}
 use Rattle.lexopt_options.proofs.Fronts.{option_at}
-use Rattle.lexopt_options.proofs.Given.{first_kept}
+use Rattle.lexopt_options.proofs.Keys.{found_within, none_before}
+use Rattle.lexopt_options.proofs.KeysGiven.{first_kept}
 use Rattle.lexopt_options.proofs.ReadKeys.{at_start, count_within, has_option, has_positional, not_separated, room_for_one, starts, stopped_there}
 use Rattle.lexopt_options.proofs.ReadNext.{has_room, positional_parsed}
 use Rattle.lexopt_options.proofs.WholeLines.{kept_parsed}
-use Rattle.lexopt_options_spec.specs.Stops as stops
-use Rattle.lexopt_options.specs.declared.parsed.ByKey.TheVariants as told
 use Rattle.lexopt_options.proofs.read.read_keys.Goals as goal
 
 pub loop-index-init : goal.loop-index-init

@@ -1,4 +1,5 @@
-use Rattle.lexopt_options.proofs.Common.{bound, HasRead}
+use Rattle.lexopt_line_spec.specs.Bound.{bound}
+use Rattle.lexopt_options.specs.Reading.{HasRead}
 use Rattle.lexopt_options.proofs.read.read_keys.Given as goal
 
 abbrev pub invariant-loop-index : goal.invariant-loop-index

@@ -1,5 +1,8 @@
-use Rattle.lexopt_options.proofs.Common.{refl, subst, sym, parsed_before, options_of, CanHaveKeys, HaveKeys}
-use Rattle.lexopt_options.proofs.Given.{can_have_before}
+use Rattle.std.proofs.Common.{refl, subst, sym}
+use Rattle.lexopt_options_spec.specs.Asking.{parsed_before}
+use Rattle.lexopt_options.specs.Declarations.{options_of}
+use Rattle.lexopt_options.specs.Keys.{CanHaveKeys, HaveKeys}
+use Rattle.lexopt_options.proofs.KeysGiven.{can_have_before}
 use Rattle.lexopt_options.proofs.read.refused_for.Goals as goal
 
 pub returns : goal.returns

@@ -1,6 +1,7 @@
 use Rattle.lexopt_options.proofs.Common.{ap, sym, ◌∙◌, UnreadLine, by_all, by_front, early}
-use Rattle.lexopt_options.proofs.RestRead.{nothing_pending, front_ended, none_ended, surplus_ended, whole_end}
 use Rattle.lexopt_options.specs.declared.refused.Line.TheVariants as line
+use Rattle.lexopt_options.proofs.Beginnings.{nothing_pending}
+use Rattle.lexopt_options.proofs.RestRead.{front_ended, none_ended, surplus_ended, whole_end}
 use Rattle.lexopt_options.proofs.rest.read_parsed.Goals as goal
 
 pub read_keys-requires-clause-before : goal.read_keys-requires-clause-before

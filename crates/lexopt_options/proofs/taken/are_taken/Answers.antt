@@ -1,5 +1,5 @@
-use Rattle.lexopt_options.proofs.Common.{false, true, ap, arith, is_none, map, sym, ◌∙◌, drop_all, positional_view, greedy, owners}
-use Rattle.lexopt_options.proofs.TakenWords.{at_end, at_no_place, at_word, takes_all, word_next}
+use Rattle.lexopt_options.proofs.Common.{ap, arith, is_none, map, sym, ◌∙◌, drop_all, positional_view, greedy, owners}
+use Rattle.lexopt_options.proofs.TakenWords.{at_end, at_next, at_no_place, at_refused, takes_all, word_next}
 use Rattle.lexopt_options.proofs.taken.are_taken.Goals.{in-Some+else-not-takes_at, in_default}
 use Rattle.lexopt_options.proofs.taken.are_taken.Goals as goal
 
@@ -12,7 +12,7 @@ pub returns-then-not-takes_at : goal.returns-then-not-takes_at
 returns-then-not-takes_at g c =
     let ps = map positional_view c.args.positionals.now in
     let word = word_next c.args.words.now c.loop-index.index c.index-words-index.result c.loop-index-test.true c.index-words-index.is in
-    sym (ap is_none (at_word ps (owners 0 (greedy ps c.args.spare)) _ _ _ c.index-words-index.result c.loop-index.index c.in-Some.place false c.loop-index.invariant word (sym c.place_of.ensures ∙ c.in-Some.is) (sym c.takes_at.ensures ∙ c.if-not-takes_at.true)))
+    sym (ap is_none (at_refused ps (owners 0 (greedy ps c.args.spare)) _ _ _ c.index-words-index.result c.loop-index.index c.in-Some.place c.loop-index.invariant word (sym c.place_of.ensures ∙ c.in-Some.is) (sym c.takes_at.ensures ∙ c.if-not-takes_at.true)))
 
 pub loop-index-preserved : goal.loop-index-preserved
 loop-index-preserved g c =
@@ -21,7 +21,7 @@ loop-index-preserved g c =
     let word = word_next c.args.words.now c.loop-index.index c.index-words-index.result c.loop-index-test.true c.index-words-index.is in
     elim c.match-place_of.branch [
       | in-Some+else-not-takes_at v ↦
-          at_word ps places _ _ _ c.index-words-index.result c.loop-index.index v.in-Some.place true c.loop-index.invariant word (sym c.place_of.ensures ∙ v.in-Some.is) (sym v.takes_at.ensures ∙ v.if-not-takes_at.false)
+          at_next ps places _ _ _ c.index-words-index.result c.loop-index.index v.in-Some.place c.loop-index.invariant word (sym c.place_of.ensures ∙ v.in-Some.is) (sym v.takes_at.ensures ∙ v.if-not-takes_at.false)
       | in_default v ↦ at_no_place ps places _ _ _ c.index-words-index.result c.loop-index.index c.loop-index.invariant word (sym c.place_of.ensures ∙ v.in_default.is)
     ]
 

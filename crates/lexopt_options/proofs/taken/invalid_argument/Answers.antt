@@ -2,8 +2,8 @@ use Rattle.lexopt_options.proofs.Common.{ap, map, sym, ◌-◌, ◌∙◌, posit
 use Rattle.lexopt_options.proofs.TakenWords.{all_taken, invalid_line, parsed_counted}
 use Rattle.lexopt_options.proofs.taken.invalid_argument.Goals as goal
 
-pub returns-then-not-options : goal.returns-then-not-options
-returns-then-not-options g c = λ within. all_taken (positionals_of c.args.options.now) _ (sym c.args.options.now.lists ∙ c.if-not-options.true) within
+pub returns-then-not-has_lists : goal.returns-then-not-has_lists
+returns-then-not-has_lists g c = λ within. all_taken (positionals_of c.args.options.now) _ (sym c.has_lists.ensures ∙ c.if-not-has_lists.true) within
 
 pub returns : goal.returns
 returns g c =

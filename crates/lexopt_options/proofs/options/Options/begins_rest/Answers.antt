@@ -1,5 +1,5 @@
 use Rattle.lexopt_options.proofs.Common.{ap, declaration_of, start_view}
-use Rattle.lexopt_options.proofs.RestRead.{nowhere_follows, separator_follows}
+use Rattle.lexopt_options.proofs.Beginnings.{nowhere_follows, separator_follows}
 use Rattle.lexopt_options.proofs.options.Options.begins_rest.Goals as goal
 
 pub returns-in-Separated : goal.returns-in-Separated

@@ -1,5 +1,5 @@
 use Rattle.lexopt_options.proofs.Common.{◌∙◌, sym, false≢true, declaration_of}
-use Rattle.lexopt_options.proofs.RestRead.{follows_by, no_rest_follows}
+use Rattle.lexopt_options.proofs.Beginnings.{follows_by, no_rest_follows}
 use Rattle.lexopt_options.proofs.options.Options.begins_surplus.Goals as goal
 
 pub returns-then-takes_positional : goal.returns-then-takes_positional

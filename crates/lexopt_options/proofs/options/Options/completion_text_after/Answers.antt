@@ -1,4 +1,5 @@
-use Rattle.lexopt_options.proofs.Common.{ap, ◌∙◌, IfOk-weaker, completion_text}
+use Rattle.lexopt_options.proofs.Common.{ap, ◌∙◌, IfOk-weaker}
+use Rattle.lexopt_options.specs.Answers.{completion_text}
 use Rattle.lexopt_options.proofs.options.Options.completion_text_after.Goals as goal
 
 pub returns : goal.returns

@@ -1,4 +1,5 @@
-use Rattle.lexopt_options.proofs.Common.{◌∙◌, Bool, ap, position, rules, tests, YieldsList-from_slice, position_from_yields_List, Declared, is_maybe}
+use Rattle.lexopt_options.proofs.Common.{◌∙◌, Bool, ap, position, rules, subst, tests, YieldsList-from_slice, position_from_yields_List, Declared, names_at, options_of}
+use Rattle.lexopt_options.specs.Usage.{ConvertsFor, is_maybe}
 use Rattle.lexopt_options.proofs.options.Options.parse_maybe.Goals as goal
 
 pub returns : goal.returns

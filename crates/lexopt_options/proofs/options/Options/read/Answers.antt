@@ -1,4 +1,4 @@
-use Rattle.lexopt_options.proofs.Common.{UnreadLine, ap, arith, subst, sym, ◌∙◌, eqb-true, nil_from_length, IfOk-weaker, LineMeans}
+use Rattle.lexopt_options.proofs.Common.{arith, subst, sym, ◌∙◌, eqb-true, nil_from_length, IfOk-weaker, LineMeans}
 use Rattle.lexopt_options.specs.declared.refused.Line.TheVariants as line
 use Rattle.lexopt_options.proofs.WholeLines.{line_of, no_words}
 use Rattle.lexopt_options.proofs.options.Options.read.Goals as goal
@@ -14,12 +14,6 @@ returns-then-means_nothing-clause-line g c =
 pub returns-then-means_nothing-clause-answered : goal.returns-then-means_nothing-clause-answered
 returns-then-means_nothing-clause-answered g c = λ l means. line_of c.args.self.now c.args.words.items (line.Parsed c.new.result) (returns-then-means_nothing-clause-line g c) l means
 
-pub read_keys-requires-clause-before : goal.read_keys-requires-clause-before
-read_keys-requires-clause-before g c = ap (λ (u : UnreadLine). u.ended) c.parser_of-parser.ensures
-
-pub returns-clause-line : goal.returns-clause-line
-returns-clause-line g c = c.line_of.ensures c.args.words.items c.read_keys.new.parser (c.in_ok-ended.ensures c.args.words.items c.parser_of-parser.ensures)
-
 pub returns-clause-answered : goal.returns-clause-answered
 returns-clause-answered g c = λ l means.
-    IfOk-weaker c.line_of.result _ _ (λ line read. line_of c.args.self.now c.args.words.items line read l means) (returns-clause-line g c)
+    IfOk-weaker c.read_line.result _ _ (λ line read. line_of c.args.self.now c.args.words.items line read l means) c.read_line.ensures

@@ -1,11 +1,12 @@
-use Rattle.lexopt_options.proofs.Common.{◌∙◌, false≢true, refl, subst, sym, IsSome, declaration_of, options_of}
+use Rattle.lexopt_options.proofs.Common.{refl, subst, sym, IsSome, declaration_of, options_of}
 use Rattle.lexopt_options.proofs.Completing.{all_named, none_begins, none_stands, offered_all}
 use Rattle.lexopt_options.proofs.options.Options.spellings_for.Goals as goal
 
-pub returns-then-not-begins_with_dash : goal.returns-then-not-begins_with_dash
-returns-then-not-begins_with_dash g c = λ words is.
+pub returns-then-begins_otherwise : goal.returns-then-begins_otherwise
+returns-then-begins_otherwise g c = λ words is.
+    let otherwise = c.begins_otherwise.ensures c.if-begins_otherwise.true in
     rw c.new.ensures.items
-    (none_begins (declaration_of c.args.self.now) words c.args.typed.now (λ none. false≢true (sym c.if-not-is_empty.true ∙ c.is_empty.ensures.1 none)) (λ dashed. false≢true (sym c.if-not-begins_with_dash.true ∙ c.begins_with_dash.ensures.1 dashed)))
+    (none_begins (declaration_of c.args.self.now) words c.args.typed.now otherwise.0 otherwise.1)
 
 pub returns-then-not-can_come : goal.returns-then-not-can_come
 returns-then-not-can_come g c = λ words is.
